@@ -1,12 +1,13 @@
 -- Which port a connection has, and in which slot it stands.
-use Rattle.std.specs.Prelude.{ℕ, ◌/◌, ◌%◌, Bool, false, not, Option, None, Some, find}
+use Rattle.std.specs.Prelude.{ℕ, Bool, false, not, Option, None, Some, find}
 use Rattle.std.specs.List.{list_any, position}
 use Rattle.std.specs.Option.{option_map}
-use Rattle.csp_base.specs.declared.limits.TheConstants.{SLOTS}
+use Rattle.csp_base.specs.Seat.{seat}
+use Rattle.csp_base.specs.declared.seat.Seat.{Seat}
 use Rattle.csp_conn.specs.declared.slot.Connection.{Connection}
 use Rattle.csp_conn.specs.declared.slot.Slot.TheVariants.{Open}
 use Rattle.csp_conn.specs.Circle.{circle_after}
-use Rattle.csp_conn.specs.PlainConns.{PlainConns, slots_of, with_slot}
+use Rattle.csp_conn.specs.PlainConns.{PlainConns, seat_of, slots_of, with_slot}
 use Rattle.csp_conn.specs.Slots.{has_port, is_between, is_free}
 
 -- a connection in use to this node has this own port
@@ -33,13 +34,17 @@ gone_on c own None = record c { last = own }
 gone_on c own (Some port) = c
 
 -- with a connection that an application opened in a slot
-abbrev pub opened : PlainConns → ℕ → ℕ → Connection → Option ℕ → PlainConns
-opened c app slot connection from = gone_on (with_slot c app slot (Open connection)) connection.own_port from
+abbrev pub opened : PlainConns → Seat → Connection → Option ℕ → PlainConns
+opened c s connection from = gone_on (with_slot c s (Open connection)) connection.own_port from
 
 -- the least free slot of an application
-abbrev pub first_free : PlainConns → ℕ → Option ℕ
+abbrev pub first_free : PlainConns → (app : ℕ) → Option ℕ
 first_free c app = position is_free (slots_of c app)
 
--- the application and the slot that have this connection: the first in the order of application, then slot
-abbrev pub found : PlainConns → Connection → Option (ℕ × ℕ)
-found c connection = option_map (λ place. (place / SLOTS, place % SLOTS)) (position (is_between connection) c.slots)
+-- the seat of that slot
+abbrev pub free_seat : PlainConns → (app : ℕ) → Option Seat
+free_seat c app = option_map (seat app) (first_free c app)
+
+-- the seat that has this connection: the first in the order of application, then slot
+abbrev pub found : PlainConns → Connection → Option Seat
+found c connection = option_map seat_of (position (is_between connection) c.slots)

@@ -1,8 +1,10 @@
 -- The slots of a node's applications as plain data.
-use Rattle.std.specs.Prelude.{◌≡◌, ℕ, ◌+◌, ◌*◌, ◌-◌, ◌<◌, ◌≤◌, List, length, replicate, get_or, slice_set, slice_range}
+use Rattle.std.specs.Prelude.{◌≡◌, ℕ, ◌+◌, ◌*◌, ◌/◌, ◌%◌, ◌-◌, ◌<◌, ◌≤◌, List, length, replicate, get_or, slice_set, slice_range}
 use Rattle.csp_base.specs.declared.ports.TheConstants.{FIRST_OWN_PORT}
 use Rattle.csp_conn.specs.declared.circle.TheConstants.{OWN_PORTS}
 use Rattle.csp_base.specs.declared.limits.TheConstants.{MAX_APPS, SLOTS}
+use Rattle.csp_base.specs.Seat.{seat}
+use Rattle.csp_base.specs.declared.seat.Seat.{Seat}
 use Rattle.csp_conn.specs.declared.slot.Slot.{Slot}
 use Rattle.csp_conn.specs.declared.slot.Slot.TheVariants.{Free}
 
@@ -21,25 +23,29 @@ pub record IsConns (c : PlainConns) : Type 0 where
   pub below : c.last < FIRST_OWN_PORT + OWN_PORTS
 
 -- there is such an application, and it has such a slot
-pub record IsThere (c : PlainConns) (app slot : ℕ) : Type 0 where
-  pub of_node : app < c.apps
-  pub of_app : slot < SLOTS
+pub record IsThere (c : PlainConns) (s : Seat) : Type 0 where
+  pub of_node : s.app < c.apps
+  pub of_app : s.slot < SLOTS
 
--- the place of a slot
-abbrev pub place_of : ℕ → ℕ → ℕ
-place_of app slot = app * SLOTS + slot
+-- the place of a seat in the order of application, then slot
+abbrev pub place_of : Seat → ℕ
+place_of s = s.app * SLOTS + s.slot
+
+-- the seat at a place of that order
+abbrev pub seat_of : (place : ℕ) → Seat
+seat_of place = seat (place / SLOTS) (place % SLOTS)
 
 -- what a slot has
-abbrev pub slot_at : PlainConns → ℕ → ℕ → Slot
-slot_at c app slot = get_or c.slots (place_of app slot) Free
+abbrev pub slot_at : PlainConns → Seat → Slot
+slot_at c s = get_or c.slots (place_of s) Free
 
 -- what the slots of an application have
-abbrev pub slots_of : PlainConns → ℕ → List Slot
-slots_of c app = slice_range c.slots (place_of app 0) (place_of app 0 + SLOTS)
+abbrev pub slots_of : PlainConns → (app : ℕ) → List Slot
+slots_of c app = slice_range c.slots (place_of (seat app 0)) (place_of (seat app 0) + SLOTS)
 
 -- with this in a slot
-abbrev pub with_slot : PlainConns → ℕ → ℕ → Slot → PlainConns
-with_slot c app slot what = record c { slots = slice_set c.slots (place_of app slot) what }
+abbrev pub with_slot : PlainConns → Seat → Slot → PlainConns
+with_slot c s what = record c { slots = slice_set c.slots (place_of s) what }
 
 -- the slots of so many applications before any connection: the circle of own ports begins with its first
 abbrev pub conns_of : ℕ → PlainConns

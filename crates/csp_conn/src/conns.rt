@@ -3,13 +3,13 @@
 ghost use Rattle.std.specs.Prelude.{◌≡◌, ◌≢◌, ◌↔◌, ◌≤◌, ◌<◌, false, true, None, Some, Ok, Err, IsErr, IfOk, IfSome, OnErr, length};
 ghost use Rattle.std.specs.List.{All, list_any, position};
 ghost use Rattle.csp_conn.specs.PlainConns.{IsConns, IsThere, conns_of, place_of, slot_at, slots_of, with_slot};
-ghost use Rattle.csp_conn.specs.Opening.{first_free, found, is_refused, is_taken, next_port, opened, own_port_of};
+ghost use Rattle.csp_conn.specs.Opening.{first_free, free_seat, found, is_refused, is_taken, next_port, opened, own_port_of};
 ghost use Rattle.csp_conn.specs.Slots.{between, is_between, is_free};
 
 use crate::circle::{OWN_PORTS, port_after};
 use crate::slot::{Connection, Slot};
 use arrayvec::ArrayVec;
-use csp_base::{ALL_SLOTS, Addr, FIRST_OWN_PORT, MAX_APPS, Port, SLOTS};
+use csp_base::{ALL_SLOTS, Addr, FIRST_OWN_PORT, MAX_APPS, Port, SLOTS, Seat};
 use std::marker::Model;
 use thiserror::Error;
 
@@ -49,14 +49,14 @@ impl Model for Conns {
     ghost invariant = { λ c. IsConns (record { apps = c.apps; slots = c.slots.items; last = c.last }) };
 }
 
-/// The place of an application's slot among all.
-pub fn place(app: u8, slot: u8) -> usize
-    requires app { app < MAX_APPS }
-    requires slot { slot < SLOTS }
-    ensures value { result ≡ place_of app slot }
+/// The place of a seat among all.
+pub fn place(seat: Seat) -> usize
+    requires app { seat.app < MAX_APPS }
+    requires slot { seat.slot < SLOTS }
+    ensures value { result ≡ place_of seat }
     ensures inside { result < ALL_SLOTS }
 {
-    app as usize * SLOTS + slot as usize
+    seat.app as usize * SLOTS + seat.slot as usize
 }
 
 // The first of some slots that is free.
@@ -91,35 +91,34 @@ impl Conns {
     }
 
     /// What a slot has.
-    pub fn slot(&self, app: u8, slot: u8) -> Slot
-        requires { IsThere self.now app slot }
-        ensures value { result ≡ slot_at self.now app slot }
+    pub fn slot(&self, seat: Seat) -> Slot
+        requires { IsThere self.now seat }
+        ensures value { result ≡ slot_at self.now seat }
         ensures sound { IsConns self.now }
     {
         let slots = self.slots.as_slice();
-        slots[place(app, slot)]
+        slots[place(seat)]
     }
 
     /// Opens a connection in a slot, to a port of another node, from this port or from the next one that is not taken.
     /// Answers the own port. What is refused changes nothing.
     pub fn open(
         &mut self,
-        app: u8,
-        slot: u8,
+        seat: Seat,
         dest: Addr,
         port: Port,
         from: Option<Port>,
     ) -> Result<Port, OpenError>
-        requires { IsThere self.old app slot }
-        ensures busy { (result ≡ Err OpenError.Busy) ↔ (slot_at self.old app slot ≢ Slot.Free) }
-        ensures port_busy { (result ≡ Err OpenError.PortBusy) ↔ ((slot_at self.old app slot ≡ Slot.Free) × (is_refused self.old dest from ≡ true)) }
+        requires { IsThere self.old seat }
+        ensures busy { (result ≡ Err OpenError.Busy) ↔ (slot_at self.old seat ≢ Slot.Free) }
+        ensures port_busy { (result ≡ Err OpenError.PortBusy) ↔ ((slot_at self.old seat ≡ Slot.Free) × (is_refused self.old dest from ≡ true)) }
         ensures own_port { IfOk result (λ own. own_port_of self.old dest from ≡ Some own) }
         ensures untaken { IfOk result (λ own. is_taken self.old dest own ≡ false) }
-        ensures ok { IfOk result (λ own. self.new ≡ opened self.old app slot (between dest port own) from) }
+        ensures ok { IfOk result (λ own. self.new ≡ opened self.old seat (between dest port own) from) }
         ensures err { OnErr result (self.new ≡ self.old) }
         ensures apps { self.new.apps ≡ self.old.apps }
     {
-        if !self.slot(app, slot).is_free() {
+        if !self.slot(seat).is_free() {
             return Err(OpenError::Busy);
         }
         let own_port = match from {
@@ -134,88 +133,70 @@ impl Conns {
                 self.last
             }
         };
-        self.put(
-            app,
-            slot,
-            Slot::Open(Connection {
-                peer: dest,
-                peer_port: port,
-                own_port,
-            }),
-        );
+        let connection = Connection {
+            peer: dest,
+            peer_port: port,
+            own_port,
+        };
+        self.put(seat, Slot::Open(connection));
         Ok(own_port)
     }
 
     /// Takes the least free slot of an application for a connection that a packet opens.
-    pub fn incoming(
-        &mut self,
-        app: u8,
-        peer: Addr,
-        peer_port: Port,
-        own_port: Port,
-    ) -> Result<u8, NoSlot>
+    pub fn incoming(&mut self, app: u8, connection: Connection) -> Result<Seat, NoSlot>
         requires { app < self.old.apps }
         ensures full { IsErr result ↔ All (λ slot. slot ≢ Slot.Free) (slots_of self.old app) }
-        ensures least { IfOk result (λ slot. first_free self.old app ≡ Some slot) }
-        ensures none { OnErr result (first_free self.old app ≡ None) }
-        ensures ok { IfOk result (λ slot. (slot < SLOTS) × (self.new ≡ with_slot self.old app slot (Slot.Open (between peer peer_port own_port)))) }
+        ensures least { IfOk result (λ seat. free_seat self.old app ≡ Some seat) }
+        ensures none { OnErr result (free_seat self.old app ≡ None) }
+        ensures ok { IfOk result (λ seat. IsThere self.old seat × (self.new ≡ with_slot self.old seat (Slot.Open connection))) }
         ensures err { OnErr result (self.new ≡ self.old) }
         ensures apps { self.new.apps ≡ self.old.apps }
     {
         let slot = self.first_free(app).ok_or(NoSlot)?;
-        self.put(
-            app,
-            slot,
-            Slot::Open(Connection {
-                peer,
-                peer_port,
-                own_port,
-            }),
-        );
-        Ok(slot)
+        let seat = Seat { app, slot };
+        self.put(seat, Slot::Open(connection));
+        Ok(seat)
     }
 
-    /// The application and the slot that have this connection: the least application, and of its slots the least.
-    pub fn find(&self, peer: Addr, peer_port: Port, own_port: Port) -> Option<(u8, u8)>
-        ensures value { result ≡ found self.now (between peer peer_port own_port) }
-        ensures there { IfSome result (λ at. IsThere self.now at.0 at.1) }
-        ensures connection { IfSome result (λ at. slot_at self.now at.0 at.1 ≡ Slot.Open (between peer peer_port own_port)) }
+    /// The seat that has this connection: the least application, and of its slots the least.
+    pub fn find(&self, connection: Connection) -> Option<Seat>
+        ensures value { result ≡ found self.now connection }
+        ensures there { IfSome result (λ seat. IsThere self.now seat) }
+        ensures connection { IfSome result (λ seat. slot_at self.now seat ≡ Slot.Open connection) }
         ensures sound { IsConns self.now }
     {
-        let connection = Connection {
-            peer,
-            peer_port,
-            own_port,
-        };
         match place_between(self.slots.as_slice(), connection) {
-            Some(place) => Some(((place / SLOTS) as u8, (place % SLOTS) as u8)),
+            Some(place) => Some(Seat {
+                app: (place / SLOTS) as u8,
+                slot: (place % SLOTS) as u8,
+            }),
             None => None,
         }
     }
 
     /// Frees a slot, whatever it has.
-    pub fn free(&mut self, app: u8, slot: u8)
-        requires { IsThere self.old app slot }
-        ensures { self.new ≡ with_slot self.old app slot Slot.Free }
+    pub fn free(&mut self, seat: Seat)
+        requires { IsThere self.old seat }
+        ensures { self.new ≡ with_slot self.old seat Slot.Free }
     {
-        self.put(app, slot, Slot::Free);
+        self.put(seat, Slot::Free);
     }
 
     /// Puts a free slot in use without addresses and ports.
-    pub fn hold(&mut self, app: u8, slot: u8)
-        requires there { IsThere self.old app slot }
-        requires free { slot_at self.old app slot ≡ Slot.Free }
-        ensures { self.new ≡ with_slot self.old app slot Slot.Held }
+    pub fn hold(&mut self, seat: Seat)
+        requires there { IsThere self.old seat }
+        requires free { slot_at self.old seat ≡ Slot.Free }
+        ensures { self.new ≡ with_slot self.old seat Slot.Held }
     {
-        self.put(app, slot, Slot::Held);
+        self.put(seat, Slot::Held);
     }
 
-    fn put(&mut self, app: u8, slot: u8, what: Slot)
-        requires { IsThere self.old app slot }
-        ensures { self.new ≡ with_slot self.old app slot what }
+    fn put(&mut self, seat: Seat, what: Slot)
+        requires { IsThere self.old seat }
+        ensures { self.new ≡ with_slot self.old seat what }
     {
         let slots = self.slots.as_mut_slice();
-        slots[place(app, slot)] = what;
+        slots[place(seat)] = what;
     }
 
     // Whether a connection in use to this node has this own port.
@@ -246,7 +227,7 @@ impl Conns {
         ensures { result ≡ first_free self.now app }
     {
         let slots = self.slots.as_slice();
-        let first = place(app, 0);
+        let first = place(Seat { app, slot: 0 });
         match place_free(&slots[first..first + SLOTS]) {
             Some(slot) => Some(slot as u8),
             None => None,

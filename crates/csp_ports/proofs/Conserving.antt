@@ -1,12 +1,14 @@
 -- what comes of each step of ports, and that it neither loses a buffer nor counts further than it may
 use Rattle.std.specs.Prelude.{Bool, true, false, IfSome, None, Option, Some, unwrap_or}
 use Rattle.std.specs.List.{range_with_len}
-use Rattle.std.proofs.Common.{◌≡◌, ℕ, zero, suc, ◌+◌, ◌*◌, ◌/◌, ◌%◌, ◌<◌, ◌≤◌, List, [], ◌∷◌, ◌++◌, refl, arith, ap, subst, sym, ◌∙◌}
+use Rattle.std.proofs.Common.{◌≡◌, ℕ, zero, suc, ◌+◌, ◌*◌, ◌<◌, ◌≤◌, List, [], ◌∷◌, ◌++◌, refl, arith, ap, subst, sym, ◌∙◌}
 use Rattle.std.proofs.lemmas.List.{length-set}
 use Rattle.std.proofs.lemmas.List.Elements.{All-set}
+use Rattle.csp_base.specs.Seat.{seat}
+use Rattle.csp_base.specs.declared.seat.Seat.{Seat}
 use Rattle.csp_buffer.specs.Content.{Content}
 use Rattle.csp_buffer.specs.PlainBuffer.{PlainBuffer}
-use Rattle.csp_conn.specs.PlainConns.{place_of, with_slot}
+use Rattle.csp_conn.specs.PlainConns.{place_of, seat_of, with_slot}
 use Rattle.csp_base.specs.declared.limits.TheConstants.{SLOTS}
 use Rattle.csp_conn.specs.declared.slot.Slot.TheVariants.{Free}
 use Rattle.csp_ports.proofs.Counting.{all_or, far_at, far_changed, far_closed, far_connected, far_idle, far_terms}
@@ -33,7 +35,6 @@ use Rattle.csp_rdp.specs.Machine.{PlainRdp, idle}
 use Rattle.csp_rdp.specs.declared.answers.Change.{Change}
 use Rattle.csp_rdp.specs.declared.answers.Change.TheVariants as change
 use Rattle.csp_rdp.specs.declared.answers.State.{State}
-use Rattle.csp_rdp.specs.declared.answers.State.TheVariants.{Closed, SynSent, SynRcvd, Open, CloseWait}
 use Rattle.csp_rdp.specs.declared.answers.Cause.{Cause}
 use Rattle.csp_rdp.specs.declared.answers.Cause.TheVariants as machine_why
 use Rattle.csp_rdp.proofs.Public.{admitted-balanced, numbers-ticked, far-ticked}
@@ -49,74 +50,74 @@ flows_none m p h = flows_still m p p refl refl refl (λ n k. far_later n (n + m)
 -- ---- the machine of a slot goes
 
 -- another one that holds nothing takes its place, or none
-pub flows_replaced : (p : PlainPorts) (app slot : ℕ) (m : Option PlainRdp) → IsWhole (unwrap_or m idle) → IsFar 0 (unwrap_or m idle) → rdp_numbers (unwrap_or m idle) ≡ [] → AreWhole p
-    → Flows 0 p (with_machine_or p app slot m) (pictures (rdp_buffers (machine_at p app slot))) []
-flows_replaced p app slot m whole far empty h = record {
-  counts = λ o. omega (arith, machine_gone o p app slot m empty, tally_none o);
-  far = λ n k. machine_far 0 n p app slot m (machine_later 0 (n + 0) (unwrap_or m idle) (omega arith) far) k;
-  whole = machine_whole_or p app slot m whole h;
+pub flows_replaced : (p : PlainPorts) (seat : Seat) (m : Option PlainRdp) → IsWhole (unwrap_or m idle) → IsFar 0 (unwrap_or m idle) → rdp_numbers (unwrap_or m idle) ≡ [] → AreWhole p
+    → Flows 0 p (with_machine_or p seat m) (pictures (rdp_buffers (machine_at p seat))) []
+flows_replaced p seat m whole far empty h = record {
+  counts = λ o. omega (arith, machine_gone o p seat m empty, tally_none o);
+  far = λ n k. machine_far 0 n p seat m (machine_later 0 (n + 0) (unwrap_or m idle) (omega arith) far) k;
+  whole = machine_whole_or p seat m whole h;
 }
 
 -- the slot is freed
-conns_far : (n : ℕ) (p : PlainPorts) (app slot : ℕ) → AreFar n p → AreFar n (record p { conns = with_slot p.conns app slot Free })
-conns_far n p app slot h = record { machines = h.machines; made = h.made; ends = h.ends }
+conns_far : (n : ℕ) (p : PlainPorts) (seat : Seat) → AreFar n p → AreFar n (record p { conns = with_slot p.conns seat Free })
+conns_far n p seat h = record { machines = h.machines; made = h.made; ends = h.ends }
 
-flows_freed : (m ordinal app slot : ℕ) (p : PlainPorts) → ((n : ℕ) → AreFar n p → ordinal ≤ n + m) → AreWhole p → Flows m p (freed ordinal app slot p).ports (freed ordinal app slot p).loose []
-flows_freed m ordinal app slot p one h =
-    let free : PlainPorts = record p { conns = with_slot p.conns app slot Free } in
-    let t : Terms = record (terms_at p app slot) { wish = wish.Nothing; is_down = false; ordinal = ordinal } in
-    let q : PlainPorts = with_terms free app slot t in
-    let first : Flows m p q [] [] = flows_still m p q refl (machines_of_terms free app slot t) refl (λ n k. far_terms (n + m) free app slot t (one n k) (conns_far (n + m) p app slot (far_later n (n + m) p (omega arith) k))) h in
-    flows_then m 0 m p q (with_machine_or q app slot None) [] (pictures (rdp_buffers (machine_at q app slot))) [] (omega arith) first
-    (flows_replaced q app slot None idle_whole (far_idle 0) refl first.whole)
+flows_freed : (m ordinal : ℕ) (seat : Seat) (p : PlainPorts) → ((n : ℕ) → AreFar n p → ordinal ≤ n + m) → AreWhole p → Flows m p (freed ordinal seat p).ports (freed ordinal seat p).loose []
+flows_freed m ordinal seat p one h =
+    let free : PlainPorts = record p { conns = with_slot p.conns seat Free } in
+    let t : Terms = record (terms_at p seat) { wish = wish.Nothing; is_down = false; ordinal = ordinal } in
+    let q : PlainPorts = with_terms free seat t in
+    let first : Flows m p q [] [] = flows_still m p q refl (machines_of_terms free seat t) refl (λ n k. far_terms (n + m) free seat t (one n k) (conns_far (n + m) p seat (far_later n (n + m) p (omega arith) k))) h in
+    flows_then m 0 m p q (with_machine_or q seat None) [] (pictures (rdp_buffers (machine_at q seat))) [] (omega arith) first
+    (flows_replaced q seat None idle_whole (far_idle 0) refl first.whole)
 
-flows_freed_same : (app slot : ℕ) (p : PlainPorts) → AreWhole p → let c = freed (terms_at p app slot).ordinal app slot p in Flows 0 p c.ports c.loose []
-flows_freed_same app slot p h = flows_freed 0 (terms_at p app slot).ordinal app slot p (λ n k. omega (arith, far_at n p app slot k)) h
+flows_freed_same : (seat : Seat) (p : PlainPorts) → AreWhole p → let c = freed (terms_at p seat).ordinal seat p in Flows 0 p c.ports c.loose []
+flows_freed_same seat p h = flows_freed 0 (terms_at p seat).ordinal seat p (λ n k. omega (arith, far_at n p seat k)) h
 
-pub flows_freed_next : (app slot : ℕ) (p : PlainPorts) → AreWhole p → let c = freed ((terms_at p app slot).ordinal + 1) app slot p in Flows 1 p c.ports c.loose []
-flows_freed_next app slot p h = flows_freed 1 ((terms_at p app slot).ordinal + 1) app slot p (λ n k. omega (arith, far_at n p app slot k)) h
+pub flows_freed_next : (seat : Seat) (p : PlainPorts) → AreWhole p → let c = freed ((terms_at p seat).ordinal + 1) seat p in Flows 1 p c.ports c.loose []
+flows_freed_next seat p h = flows_freed 1 ((terms_at p seat).ordinal + 1) seat p (λ n k. omega (arith, far_at n p seat k)) h
 
 -- ---- what a change of a connection comes to
 
-flows_connected : (w : Wish) (app slot : ℕ) (p : PlainPorts) → AreWhole p → Flows 0 p (connected_by w app slot p) [] []
-flows_connected wish.Connection app slot p h = flows_still 0 p (connected_by wish.Connection app slot p) refl (machines_of_terms p app slot (record (terms_at p app slot) { wish = wish.Nothing })) refl (no_further p (connected_by wish.Connection app slot p) (λ n k. far_connected n wish.Connection p app slot k)) h
-flows_connected wish.Nothing app slot p h = flows_none 0 p h
-flows_connected wish.End app slot p h = flows_none 0 p h
-flows_connected wish.Ended app slot p h = flows_none 0 p h
+flows_connected : (w : Wish) (seat : Seat) (p : PlainPorts) → AreWhole p → Flows 0 p (connected_by w seat p) [] []
+flows_connected wish.Connection seat p h = flows_still 0 p (connected_by wish.Connection seat p) refl (machines_of_terms p seat (record (terms_at p seat) { wish = wish.Nothing })) refl (no_further p (connected_by wish.Connection seat p) (λ n k. far_connected n wish.Connection p seat k)) h
+flows_connected wish.Nothing seat p h = flows_none 0 p h
+flows_connected wish.End seat p h = flows_none 0 p h
+flows_connected wish.Ended seat p h = flows_none 0 p h
 
-flows_refused : (w : Wish) (why : Cause) (app slot : ℕ) (p : PlainPorts) → AreWhole p → Flows 0 p (refused_by w why app slot p).ports (refused_by w why app slot p).loose []
-flows_refused wish.Connection why app slot p h =
-    let first = flows_freed_same app slot p h in
-    let c = freed (terms_at p app slot).ordinal app slot p in
-    let q = (refused_by wish.Connection why app slot p).ports in
+flows_refused : (w : Wish) (why : Cause) (seat : Seat) (p : PlainPorts) → AreWhole p → Flows 0 p (refused_by w why seat p).ports (refused_by w why seat p).loose []
+flows_refused wish.Connection why seat p h =
+    let first = flows_freed_same seat p h in
+    let c = freed (terms_at p seat).ordinal seat p in
+    let q = (refused_by wish.Connection why seat p).ports in
     flows_then 0 0 0 p c.ports q c.loose [] [] (omega arith) first
     (flows_still 0 c.ports q refl refl refl (no_further c.ports q (λ n k. record { machines = k.machines; made = k.made; ends = k.ends })) first.whole)
-flows_refused wish.Nothing why app slot p h = flows_freed_same app slot p h
-flows_refused wish.End why app slot p h = flows_freed_same app slot p h
-flows_refused wish.Ended why app slot p h = flows_freed_same app slot p h
+flows_refused wish.Nothing why seat p h = flows_freed_same seat p h
+flows_refused wish.End why seat p h = flows_freed_same seat p h
+flows_refused wish.Ended why seat p h = flows_freed_same seat p h
 
-flows_closed : (w : Wish) (was_open : Bool) (app slot : ℕ) (p : PlainPorts) → AreWhole p → Flows 0 p (closed_by w was_open app slot p).ports (closed_by w was_open app slot p).loose []
-flows_closed wish.End o app slot p h = flows_still 0 p (closed_by wish.End o app slot p).ports refl (machines_of_terms p app slot (record (terms_at p app slot) { wish = wish.Ended })) refl (no_further p (closed_by wish.End o app slot p).ports (λ n k. far_closed n wish.End o p app slot k)) h
-flows_closed wish.Nothing true app slot p h = flows_none 0 p h
-flows_closed wish.Nothing false app slot p h = flows_freed_same app slot p h
-flows_closed wish.Connection o app slot p h = flows_none 0 p h
-flows_closed wish.Ended o app slot p h = flows_none 0 p h
+flows_closed : (w : Wish) (was_open : Bool) (seat : Seat) (p : PlainPorts) → AreWhole p → Flows 0 p (closed_by w was_open seat p).ports (closed_by w was_open seat p).loose []
+flows_closed wish.End o seat p h = flows_still 0 p (closed_by wish.End o seat p).ports refl (machines_of_terms p seat (record (terms_at p seat) { wish = wish.Ended })) refl (no_further p (closed_by wish.End o seat p).ports (λ n k. far_closed n wish.End o p seat k)) h
+flows_closed wish.Nothing true seat p h = flows_none 0 p h
+flows_closed wish.Nothing false seat p h = flows_freed_same seat p h
+flows_closed wish.Connection o seat p h = flows_none 0 p h
+flows_closed wish.Ended o seat p h = flows_none 0 p h
 
-pub flows_changed : (ch : Change) (app slot : ℕ) (p : PlainPorts) → AreWhole p → Flows 0 p (changed ch app slot p).ports (changed ch app slot p).loose []
-flows_changed change.None app slot p h = flows_none 0 p h
-flows_changed change.Opened app slot p h = flows_connected (terms_at p app slot).wish app slot p h
-flows_changed (change.Refused why) app slot p h = flows_refused (terms_at p app slot).wish why app slot p h
-flows_changed change.Down app slot p h = flows_still 0 p (down app slot p) refl (machines_of_terms p app slot (record (terms_at p app slot) { is_down = true })) refl (no_further p (down app slot p) (λ n k. far_changed n change.Down p app slot k)) h
-flows_changed change.Closed app slot p h = flows_closed (terms_at p app slot).wish (machine_at p app slot).was_open app slot p h
+pub flows_changed : (ch : Change) (seat : Seat) (p : PlainPorts) → AreWhole p → Flows 0 p (changed ch seat p).ports (changed ch seat p).loose []
+flows_changed change.None seat p h = flows_none 0 p h
+flows_changed change.Opened seat p h = flows_connected (terms_at p seat).wish seat p h
+flows_changed (change.Refused why) seat p h = flows_refused (terms_at p seat).wish why seat p h
+flows_changed change.Down seat p h = flows_still 0 p (down seat p) refl (machines_of_terms p seat (record (terms_at p seat) { is_down = true })) refl (no_further p (down seat p) (λ n k. far_changed n change.Down p seat k)) h
+flows_changed change.Closed seat p h = flows_closed (terms_at p seat).wish (machine_at p seat).was_open seat p h
 
 -- a machine made a step, and what it changed; besides, it may hand back what came
-pub flows_went : (m : ℕ) (p : PlainPorts) (app slot : ℕ) (before : State) (why : Cause) (r : PlainRdp) (back : List Content) (came : List ℕ) → place_of app slot < 16 → AreWhole p → IsWhole r → ((n : ℕ) → IsFar n (machine_at p app slot) → IsFar (n + m) r)
-    → ((o : Option ℕ) → weigh o back + tally o (rdp_numbers r) ≡ tally o (rdp_numbers (machine_at p app slot)) + tally o came) → Flows m p (went before why app slot r p).ports ((back ++ pictures (unneeded r)) ++ (changed (change_between before r.state why) app slot (with_machine p app slot (rested r))).loose) came
-flows_went m p app slot before why r back came there h whole far even =
-    let q = with_machine p app slot (rested r) in
+pub flows_went : (m : ℕ) (p : PlainPorts) (seat : Seat) (before : State) (why : Cause) (r : PlainRdp) (back : List Content) (came : List ℕ) → place_of seat < 16 → AreWhole p → IsWhole r → ((n : ℕ) → IsFar n (machine_at p seat) → IsFar (n + m) r)
+    → ((o : Option ℕ) → weigh o back + tally o (rdp_numbers r) ≡ tally o (rdp_numbers (machine_at p seat)) + tally o came) → Flows m p (went before why seat r p).ports ((back ++ pictures (unneeded r)) ++ (changed (change_between before r.state why) seat (with_machine p seat (rested r))).loose) came
+flows_went m p seat before why r back came there h whole far even =
+    let q = with_machine p seat (rested r) in
     let ch = change_between before r.state why in
-    let first = flows_rested m p app slot r back came there h whole far even in
-    flows_then m 0 m p q (changed ch app slot q).ports (back ++ pictures (unneeded r)) (changed ch app slot q).loose came (omega arith) first (flows_changed ch app slot q first.whole)
+    let first = flows_rested m p seat r back came there h whole far even in
+    flows_then m 0 m p q (changed ch seat q).ports (back ++ pictures (unneeded r)) (changed ch seat q).loose came (omega arith) first (flows_changed ch seat q first.whole)
 
 -- ---- packets that wait
 
@@ -147,10 +148,10 @@ pub flows_dropped : (app : ℕ) (p : PlainPorts) → app < 4 → AreWhole p → 
 flows_dropped app p there h = by_dropped (λ c. Flows 0 p c.ports c.loose []) app p (λ opens. flows_none 0 p h) (λ s e shut. flows_unstalled p app s e there h)
 
 -- a packet is admitted to a window
-pub flows_admitted : (p : PlainPorts) (time app slot : ℕ) (b : PlainBuffer) → place_of app slot < 16 → AreWhole p → Flows 1 p (with_machine p app slot (admitting b time (machine_at p app slot))) [] (b.picture.number ∷ [])
-flows_admitted p time app slot b there h =
-    let r = machine_at p app slot in
-    flows_machine 1 p app slot (admitting b time r) [] (b.picture.number ∷ []) there h (admitted_whole b time r (whole_at p app slot h))
+pub flows_admitted : (p : PlainPorts) (time : ℕ) (seat : Seat) (b : PlainBuffer) → place_of seat < 16 → AreWhole p → Flows 1 p (with_machine p seat (admitting b time (machine_at p seat))) [] (b.picture.number ∷ [])
+flows_admitted p time seat b there h =
+    let r = machine_at p seat in
+    flows_machine 1 p seat (admitting b time r) [] (b.picture.number ∷ []) there h (admitted_whole b time r (whole_at p seat h))
     (λ n far. record { admitted = omega (arith, far.admitted); delivered = omega (arith, far.delivered) })
     (λ o. omega (arith, tally_none o, tally_same o (rdp_numbers (admitting b time r)) (rdp_numbers r ++ b.picture.number ∷ []) (admitted-balanced b time r), tally_append o (rdp_numbers r) (b.picture.number ∷ [])))
 
@@ -158,11 +159,11 @@ flows_admitted p time app slot b there h =
 settled_there : (p : PlainPorts) (app : ℕ) (s : PlainStalled) → stalled_at p app ≡ Some s → AreWhole p → s.slot < SLOTS
 settled_there p app s e h = subst (λ (w : Option PlainStalled). IfSome w (λ t. t.slot < SLOTS)) e (all_or (λ (w : Option PlainStalled). IfSome w (λ t. t.slot < SLOTS)) p.stalled app None h.waits tt)
 
-flows_unstalled_admitted : (time app : ℕ) (s : PlainStalled) (p : PlainPorts) → stalled_at p app ≡ Some s → app < 4 → AreWhole p → Flows 1 p (admitted time app s.slot s.buffer (with_stalled p app None)) [] []
+flows_unstalled_admitted : (time app : ℕ) (s : PlainStalled) (p : PlainPorts) → stalled_at p app ≡ Some s → app < 4 → AreWhole p → Flows 1 p (admitted time (seat app s.slot) s.buffer (with_stalled p app None)) [] []
 flows_unstalled_admitted time app s p e there h =
     let first = flows_unstalled p app s e there h in
     let q = with_stalled p app None in
-    let last = flows_admitted q time app s.slot s.buffer (omega (arith, there, settled_there p app s e h)) first.whole in
+    let last = flows_admitted q time (seat app s.slot) s.buffer (omega (arith, there, settled_there p app s e h)) first.whole in
     record {
       counts = λ o. omega (arith, first.counts o, last.counts o, tally_none o);
       far = λ n k. last.far n (far_later (n + 0) n q (omega arith) (first.far n k));
@@ -174,26 +175,26 @@ flows_settled time app p there h = by_settled (λ q. Flows 1 p q [] []) time app
 
 -- ---- the timers
 
-flows_timed_at : (time app slot : ℕ) (p : PlainPorts) → place_of app slot < 16 → AreWhole p → Flows 0 p (timed_at time app slot p).ports (timed_at time app slot p).loose []
-flows_timed_at time app slot p there h = go (has_machine p app slot)
+flows_timed_at : (time : ℕ) (seat : Seat) (p : PlainPorts) → place_of seat < 16 → AreWhole p → Flows 0 p (timed_at time seat p).ports (timed_at time seat p).loose []
+flows_timed_at time seat p there h = go (has_machine p seat)
   where
-    go : (b : Bool) → let c = where_machine b (went (machine_at p app slot).state machine_why.Timeout app slot (ticked time (machine_at p app slot))) p in Flows 0 p c.ports c.loose []
+    go : (b : Bool) → let c = where_machine b (went (machine_at p seat).state machine_why.Timeout seat (ticked time (machine_at p seat))) p in Flows 0 p c.ports c.loose []
     go true =
-        let r = machine_at p app slot in
-        flows_went 0 p app slot r.state machine_why.Timeout (ticked time r) [] [] there h (ticked_whole time r (whole_at p app slot h))
+        let r = machine_at p seat in
+        flows_went 0 p seat r.state machine_why.Timeout (ticked time r) [] [] there h (ticked_whole time r (whole_at p seat h))
         (λ n far. machine_later n (n + 0) (ticked time r) (omega arith) (far-ticked n time r far))
         (λ o. omega (arith, tally_none o, ap (tally o) (numbers-ticked time r)))
     go false = flows_none 0 p h
 
-place_again : (k : ℕ) → k < 16 → place_of (k / SLOTS) (k % SLOTS) < 16
+place_again : (k : ℕ) → k < 16 → place_of (seat_of k) < 16
 place_again k h = omega (arith, h)
 
 flows_timed_in : (time a n : ℕ) (p : PlainPorts) → a + n ≤ 16 → AreWhole p → Flows 0 p (timed_in time (range_with_len a n) p).ports (timed_in time (range_with_len a n) p).loose []
 flows_timed_in time a zero p few h = flows_none 0 p h
 flows_timed_in time a (suc n) p few h =
-    let one = timed_at time (a / SLOTS) (a % SLOTS) p in
+    let one = timed_at time (seat_of a) p in
     let rest = timed_in time (range_with_len (a + 1) n) one.ports in
-    let first = flows_timed_at time (a / SLOTS) (a % SLOTS) p (place_again a (omega (arith, few))) h in
+    let first = flows_timed_at time (seat_of a) p (place_again a (omega (arith, few))) h in
     flows_then 0 0 0 p one.ports rest.ports one.loose rest.loose [] (omega arith) first (flows_timed_in time (a + 1) n one.ports (omega (arith, few)) first.whole)
 
 flows_dropped_of : (a n : ℕ) (p : PlainPorts) → a + n ≤ 4 → AreWhole p → Flows 0 p (dropped_of (range_with_len a n) p).ports (dropped_of (range_with_len a n) p).loose []

@@ -2,9 +2,10 @@
 use Rattle.std.specs.List.{range_with_len}
 use Rattle.std.proofs.Common.{◌≡◌, ℕ, suc, ◌+◌, ◌-◌, ◌<◌, Bool, true, false, List, [], ◌∷◌, ◌++◌, arith, ap, refl, subst, sym, ◌∙◌}
 use Rattle.std.proofs.lemmas.List.{append-nil, append_assoc}
+use Rattle.csp_base.specs.declared.seat.Seat.{Seat}
 use Rattle.csp_deck.specs.Keeping.{PlainPile, with_contents}
 use Rattle.csp_log.specs.declared.event.Event.{Event}
-use Rattle.csp_ports.specs.Came.{Came, Comes, come, then}
+use Rattle.csp_ports.specs.Came.{Came, Comes, come, then, at_work}
 use Rattle.csp_ports.specs.PlainPorts.{PlainPorts, PortsAt, with_ports_at}
 use Rattle.csp_ports.specs.Steps.{changed, stepped, went, where_machine}
 use Rattle.csp_rdp.specs.Changes.{change_between}
@@ -14,7 +15,7 @@ use Rattle.csp_rdp.specs.declared.answers.Change.TheVariants as change
 use Rattle.csp_rdp.specs.declared.answers.State.{State}
 use Rattle.csp_rdp.specs.declared.answers.Cause.{Cause as Why}
 
-pub then_comes : (old mid new : PortsAt) (first second last : PlainPile) (e f g : List Event) (c : Came) (next : PlainPorts → Came) → Comes old mid first second e f c → Comes mid new second last f g (next mid.ports) → Comes old new first last e g (then c next)
+pub then_comes : (old mid new : PortsAt) (first second last : PlainPile) (e f g : List Event) (c : Came) (next : PlainPorts → Came) → Comes (at_work old first e) (at_work mid second f) c → Comes (at_work mid second f) (at_work new last g) (next mid.ports) → Comes (at_work old first e) (at_work new last g) (then c next)
 then_comes old mid new first second last e f g c next h k = record {
   ports = k.ports ∙ ap (λ (x : PortsAt). with_ports_at x (next x.ports).ports) h.ports;
   trash =
@@ -30,17 +31,17 @@ then_comes old mid new first second last e f g c next h k = record {
 }
 
 -- a step of a slot's machine, where it has one, and what it changed
-pub went_comes : (has : Bool) (old mid new : PortsAt) (first second last : PlainPile) (e f : List Event) (before : State) (why : Why) (app slot : ℕ) (r : PlainRdp) → (has ≡ false → change_between before r.state why ≡ change.None)
-    → Comes old mid first second [] [] (where_machine has (stepped app slot r) old.ports) → Comes mid new second last e f (changed (change_between before r.state why) app slot mid.ports) → Comes old new first last e f (where_machine has (went before why app slot r) old.ports)
-went_comes true old mid new first second last e f before why app slot r none h k =
-    then_comes old mid new first second last e e f (stepped app slot r old.ports) (changed (change_between before r.state why) app slot) (record { ports = h.ports; trash = h.trash; events = sym (append-nil e) }) k
-went_comes false old mid new first second last e f before why app slot r none h k =
+pub went_comes : (has : Bool) (old mid new : PortsAt) (first second last : PlainPile) (e f : List Event) (before : State) (why : Why) (seat : Seat) (r : PlainRdp) → (has ≡ false → change_between before r.state why ≡ change.None)
+    → Comes (at_work old first []) (at_work mid second []) (where_machine has (stepped seat r) old.ports) → Comes (at_work mid second e) (at_work new last f) (changed (change_between before r.state why) seat mid.ports) → Comes (at_work old first e) (at_work new last f) (where_machine has (went before why seat r) old.ports)
+went_comes true old mid new first second last e f before why seat r none h k =
+    then_comes old mid new first second last e e f (stepped seat r old.ports) (changed (change_between before r.state why) seat) (record { ports = h.ports; trash = h.trash; events = sym (append-nil e) }) k
+went_comes false old mid new first second last e f before why seat r none h k =
     then_comes old mid new first second last e e f (come old.ports) come (record { ports = h.ports; trash = h.trash; events = sym (append-nil e) })
-    (subst (λ (x : Change). Comes mid new second last e f (changed x app slot mid.ports)) (none refl) k)
+    (subst (λ (x : Change). Comes (at_work mid second e) (at_work new last f) (changed x seat mid.ports)) (none refl) k)
 
-pub where_apps : (has : Bool) (app slot : ℕ) (r : PlainRdp) (p : PlainPorts) → (where_machine has (stepped app slot r) p).ports.conns.apps ≡ p.conns.apps
-where_apps true app slot r p = refl
-where_apps false app slot r p = refl
+pub where_apps : (has : Bool) (seat : Seat) (r : PlainRdp) (p : PlainPorts) → (where_machine has (stepped seat r) p).ports.conns.apps ≡ p.conns.apps
+where_apps true seat r p = refl
+where_apps false seat r p = refl
 
 gone : (a n : ℕ) → a < n → n - a ≡ suc (n - (a + 1))
 gone a n h = omega (arith, h)

@@ -10,6 +10,7 @@ use Rattle.std.proofs.lemmas.List.Concat.{flat_map-cons, length-flat_map}
 use Rattle.std.proofs.lemmas.List.Elements.{All-cons, All-head, All-nil, All-tail}
 use Rattle.std.proofs.lemmas.List.Folds.{sum_by-replicate}
 use Rattle.std.proofs.lemmas.List.Sums.{sum_by-le, sum_by-take-le}
+use Rattle.csp_base.specs.Seat.{seat}
 use Rattle.csp_arena.specs.Cells.{RegionName}
 use Rattle.csp_buffer.specs.PlainBuffer.{PlainBuffer}
 use Rattle.csp_conn.specs.PlainConns.{place_of}
@@ -434,7 +435,7 @@ held-few name xs rs places slots all =
 -- no slot waits for an answer
 pub wishes-none : (n app : ℕ) → wishes app (replicate n fresh) ≡ 0
 wishes-none n app =
-    ap (λ l. sum_by (λ t. wished t.wish) (take SLOTS l)) (drop-replicate (place_of app 0) n fresh) ∙ none-taken SLOTS (n - place_of app 0)
+    ap (λ l. sum_by (λ t. wished t.wish) (take SLOTS l)) (drop-replicate (place_of (seat app 0)) n fresh) ∙ none-taken SLOTS (n - place_of (seat app 0))
   where
     none-taken : (m k : ℕ) → sum_by (λ t. wished t.wish) (take m (replicate k fresh)) ≡ 0
     none-taken m k = let few = sum_by-take-le (λ t. wished t.wish) (replicate k fresh) m in let all = sum_by-replicate (λ t. wished t.wish) k fresh in omega (arith, few, all)

@@ -6,6 +6,7 @@ use Rattle.std.proofs.Common.{◌≡◌, ℕ, ◌+◌, ◌<◌, ◌≤◌, List,
 use Rattle.std.specs.Vec.{with_item}
 use Rattle.std.proofs.lemmas.List.{get_or-map, length-map, length-set, map-set}
 use Rattle.std.proofs.lemmas.List.Elements.{All-get_or, All-set}
+use Rattle.csp_base.specs.declared.seat.Seat.{Seat}
 use Rattle.csp_conn.specs.PlainConns.{place_of}
 use Rattle.csp_ports.proofs.Wishing.{due_after}
 use Rattle.csp_deck.specs.Regions.{nowhere}
@@ -36,72 +37,72 @@ slot_kept p k s h due a = record {
 }
 
 -- what a place has
-pub slot_in : (p : Inside) (app slot place : ℕ) (d : SlotState) → place ≡ place_of app slot → place < 16 → ArePorts p → placed_state nowhere (get_or p.slots.items place d) ≡ state_at (plain_ports p) app slot
-slot_in p app slot place d e there a = sym (get_or-map (placed_state nowhere) p.slots.items place d untouched (omega (arith, there, a.slots))) ∙ ap (λ (k : ℕ). get_or (map (placed_state nowhere) p.slots.items) k untouched) e
+pub slot_in : (p : Inside) (seat : Seat) (place : ℕ) (d : SlotState) → place ≡ place_of seat → place < 16 → ArePorts p → placed_state nowhere (get_or p.slots.items place d) ≡ state_at (plain_ports p) seat
+slot_in p seat place d e there a = sym (get_or-map (placed_state nowhere) p.slots.items place d untouched (omega (arith, there, a.slots))) ∙ ap (λ (k : ℕ). get_or (map (placed_state nowhere) p.slots.items) k untouched) e
 
 -- another in its place, as contracts see it
-slot_set : (p : Inside) (app slot place : ℕ) (s : SlotState) → place ≡ place_of app slot → ports_at (record p { slots = with_item p.slots place s }) ≡ with_ports_at (ports_at p) (record (plain_ports p) { slots = slice_set (plain_ports p).slots (place_of app slot) (placed_state nowhere s) })
-slot_set p app slot place s e = rw e (ap (λ (ss : List SlotState). with_ports_at (ports_at p) (record (plain_ports p) { slots = ss })) (map-set (placed_state nowhere) p.slots.items (place_of app slot) s))
+slot_set : (p : Inside) (seat : Seat) (place : ℕ) (s : SlotState) → place ≡ place_of seat → ports_at (record p { slots = with_item p.slots place s }) ≡ with_ports_at (ports_at p) (record (plain_ports p) { slots = slice_set (plain_ports p).slots (place_of seat) (placed_state nowhere s) })
+slot_set p seat place s e = rw e (ap (λ (ss : List SlotState). with_ports_at (ports_at p) (record (plain_ports p) { slots = ss })) (map-set (placed_state nowhere) p.slots.items (place_of seat) s))
 
 -- there are as many terms as slots
 pub seen_terms : (p : Inside) → length (terms_of (plain_ports p)) ≡ length p.slots.items
 seen_terms p = length-map (map (placed_state nowhere) p.slots.items) (λ (s : SlotState). s.terms) ∙ length-map p.slots.items (placed_state nowhere)
 
 -- the terms of a slot
-pub terms_set : (p : Inside) (app slot place : ℕ) (s : SlotState) (t : Terms) → place ≡ place_of app slot → place < 16 → ArePorts p → s ≡ get_or p.slots.items place s
-    → ports_at (record p { slots = with_item p.slots place (record s { terms = t }) }) ≡ with_ports_at (ports_at p) (with_terms (plain_ports p) app slot t)
-terms_set p app slot place s t e there a value =
-    slot_set p app slot place (record s { terms = t }) e
-    ∙ ap (λ (x : SlotState). with_ports_at (ports_at p) (record (plain_ports p) { slots = slice_set (plain_ports p).slots (place_of app slot) (record x { terms = t }) })) (ap (placed_state nowhere) value ∙ slot_in p app slot place s e there a)
+pub terms_set : (p : Inside) (seat : Seat) (place : ℕ) (s : SlotState) (t : Terms) → place ≡ place_of seat → place < 16 → ArePorts p → s ≡ get_or p.slots.items place s
+    → ports_at (record p { slots = with_item p.slots place (record s { terms = t }) }) ≡ with_ports_at (ports_at p) (with_terms (plain_ports p) seat t)
+terms_set p seat place s t e there a value =
+    slot_set p seat place (record s { terms = t }) e
+    ∙ ap (λ (x : SlotState). with_ports_at (ports_at p) (record (plain_ports p) { slots = slice_set (plain_ports p).slots (place_of seat) (record x { terms = t }) })) (ap (placed_state nowhere) value ∙ slot_in p seat place s e there a)
 
-pub terms_kept : (p : Inside) (app slot place : ℕ) (s : SlotState) (t : Terms) → place ≡ place_of app slot → slot < 4 → place < 16 → ArePorts p → s ≡ get_or p.slots.items place s
-    → (waiting app p.owed.items + wishes app (terms_of (plain_ports p))) + wished t.wish ≤ ANSWERS + wished (terms_at (plain_ports p) app slot).wish → ArePorts (record p { slots = with_item p.slots place (record s { terms = t }) })
-terms_kept p app slot place s t e h there a value more =
+pub terms_kept : (p : Inside) (seat : Seat) (place : ℕ) (s : SlotState) (t : Terms) → place ≡ place_of seat → seat.slot < 4 → place < 16 → ArePorts p → s ≡ get_or p.slots.items place s
+    → (waiting seat.app p.owed.items + wishes seat.app (terms_of (plain_ports p))) + wished t.wish ≤ ANSWERS + wished (terms_at (plain_ports p) seat).wish → ArePorts (record p { slots = with_item p.slots place (record s { terms = t }) })
+terms_kept p seat place s t e h there a value more =
     slot_kept p place (record s { terms = t })
     (subst (λ (x : SlotState). IfSome x.machine (IsHoused p.token.name)) (sym value) (All-get_or (AreHoused p.token.name) p.slots.items place s (omega (arith, there, a.slots)) a.housed))
     (λ b.
     subst (λ (ts : List Terms). waiting b p.owed.items + wishes b ts ≤ ANSWERS)
-    (sym (ap (λ (x : PortsAt). terms_of x.ports) (terms_set p app slot place s t e there a value) ∙ terms_of_terms (plain_ports p) app slot t))
-    (due_after ANSWERS app slot (terms_of (plain_ports p)) (λ b. waiting b p.owed.items) t fresh h (omega (arith, e, there, a.slots, seen_terms p)) a.due
-    (subst (λ (u : Terms). (waiting app p.owed.items + wishes app (terms_of (plain_ports p))) + wished t.wish ≤ ANSWERS + wished u.wish) (terms_listed (plain_ports p) app slot) more) b))
+    (sym (ap (λ (x : PortsAt). terms_of x.ports) (terms_set p seat place s t e there a value) ∙ terms_of_terms (plain_ports p) seat t))
+    (due_after ANSWERS seat (terms_of (plain_ports p)) (λ b. waiting b p.owed.items) t fresh h (omega (arith, e, there, a.slots, seen_terms p)) a.due
+    (subst (λ (u : Terms). (waiting seat.app p.owed.items + wishes seat.app (terms_of (plain_ports p))) + wished t.wish ≤ ANSWERS + wished u.wish) (terms_listed (plain_ports p) seat) more) b))
     a
 
 -- the machine of a slot, or none, as contracts see it
-pub machine_set : (p : Inside) (app slot place : ℕ) (s : SlotState) (o : Option PlainRdp) → place ≡ place_of app slot → place < 16 → ArePorts p → s ≡ get_or p.slots.items place s
-    → ports_at (record p { slots = with_item p.slots place (record s { machine = o }) }) ≡ with_ports_at (ports_at p) (with_machine_or (plain_ports p) app slot (option_map (placed nowhere) o))
-machine_set p app slot place s o e there a value =
-    slot_set p app slot place (record s { machine = o }) e
-    ∙ ap (λ (x : SlotState). with_ports_at (ports_at p) (record (plain_ports p) { slots = slice_set (plain_ports p).slots (place_of app slot) (record x { machine = option_map (placed nowhere) o }) })) (ap (placed_state nowhere) value ∙ slot_in p app slot place s e there a)
+pub machine_set : (p : Inside) (seat : Seat) (place : ℕ) (s : SlotState) (o : Option PlainRdp) → place ≡ place_of seat → place < 16 → ArePorts p → s ≡ get_or p.slots.items place s
+    → ports_at (record p { slots = with_item p.slots place (record s { machine = o }) }) ≡ with_ports_at (ports_at p) (with_machine_or (plain_ports p) seat (option_map (placed nowhere) o))
+machine_set p seat place s o e there a value =
+    slot_set p seat place (record s { machine = o }) e
+    ∙ ap (λ (x : SlotState). with_ports_at (ports_at p) (record (plain_ports p) { slots = slice_set (plain_ports p).slots (place_of seat) (record x { machine = option_map (placed nowhere) o }) })) (ap (placed_state nowhere) value ∙ slot_in p seat place s e there a)
 
-pub machines_kept : (p : Inside) (app slot place : ℕ) (s : SlotState) (o : Option PlainRdp) → place ≡ place_of app slot → place < 16 → s ≡ get_or p.slots.items place s → IfSome o (IsHoused p.token.name) → ArePorts p → ArePorts (record p { slots = with_item p.slots place (record s { machine = o }) })
-machines_kept p app slot place s o e there value h a =
+pub machines_kept : (p : Inside) (seat : Seat) (place : ℕ) (s : SlotState) (o : Option PlainRdp) → place ≡ place_of seat → place < 16 → s ≡ get_or p.slots.items place s → IfSome o (IsHoused p.token.name) → ArePorts p → ArePorts (record p { slots = with_item p.slots place (record s { machine = o }) })
+machines_kept p seat place s o e there value h a =
     slot_kept p place (record s { machine = o }) h
     (λ b.
     subst (λ (ts : List Terms). waiting b p.owed.items + wishes b ts ≤ ANSWERS)
-    (sym (ap (λ (x : PortsAt). terms_of x.ports) (machine_set p app slot place s o e there a value) ∙ terms_of_machine (plain_ports p) app slot (option_map (placed nowhere) o))) (a.due b))
+    (sym (ap (λ (x : PortsAt). terms_of x.ports) (machine_set p seat place s o e there a value) ∙ terms_of_machine (plain_ports p) seat (option_map (placed nowhere) o))) (a.due b))
     a
 
 -- the machine that a place has, as contracts see it
-pub machine_in_place : (p : Inside) (at : PortsAt) (app slot place : ℕ) (s : SlotState) → ports_at p ≡ at → place ≡ place_of app slot → place < 16 → ArePorts p → s ≡ get_or p.slots.items place s → option_map (placed nowhere) s.machine ≡ (state_at at.ports app slot).machine
-machine_in_place p at app slot place s view e there a value =
-    ap (λ (x : SlotState). (placed_state nowhere x).machine) value ∙ (ap (λ (x : SlotState). x.machine) (slot_in p app slot place s e there a) ∙ ap (λ (x : PortsAt). (state_at x.ports app slot).machine) view)
+pub machine_in_place : (p : Inside) (at : PortsAt) (seat : Seat) (place : ℕ) (s : SlotState) → ports_at p ≡ at → place ≡ place_of seat → place < 16 → ArePorts p → s ≡ get_or p.slots.items place s → option_map (placed nowhere) s.machine ≡ (state_at at.ports seat).machine
+machine_in_place p at seat place s view e there a value =
+    ap (λ (x : SlotState). (placed_state nowhere x).machine) value ∙ (ap (λ (x : SlotState). x.machine) (slot_in p seat place s e there a) ∙ ap (λ (x : PortsAt). (state_at x.ports seat).machine) view)
 
-pub machine_seen : (p : Inside) (at : PortsAt) (app slot place : ℕ) (s : SlotState) (r : PlainRdp) → ports_at p ≡ at → place ≡ place_of app slot → place < 16 → ArePorts p → s ≡ get_or p.slots.items place s → Some r ≡ s.machine → placed nowhere r ≡ machine_at at.ports app slot
-machine_seen p at app slot place s r view e there a value some =
-    ap (λ (o : Option PlainRdp). unwrap_or (option_map (placed nowhere) o) idle) some ∙ ap (λ (o : Option PlainRdp). unwrap_or o idle) (machine_in_place p at app slot place s view e there a value)
+pub machine_seen : (p : Inside) (at : PortsAt) (seat : Seat) (place : ℕ) (s : SlotState) (r : PlainRdp) → ports_at p ≡ at → place ≡ place_of seat → place < 16 → ArePorts p → s ≡ get_or p.slots.items place s → Some r ≡ s.machine → placed nowhere r ≡ machine_at at.ports seat
+machine_seen p at seat place s r view e there a value some =
+    ap (λ (o : Option PlainRdp). unwrap_or (option_map (placed nowhere) o) idle) some ∙ ap (λ (o : Option PlainRdp). unwrap_or o idle) (machine_in_place p at seat place s view e there a value)
 
-pub machine_there : (p : Inside) (at : PortsAt) (app slot place : ℕ) (s : SlotState) (o : Option PlainRdp) → ports_at p ≡ at → place ≡ place_of app slot → place < 16 → ArePorts p → s ≡ get_or p.slots.items place s → o ≡ s.machine → is_some o ≡ has_machine at.ports app slot
-machine_there p at app slot place s o view e there a value is =
-    ap (λ (m : Option PlainRdp). is_some m) is ∙ (still s.machine ∙ ap (λ (m : Option PlainRdp). is_some m) (machine_in_place p at app slot place s view e there a value))
+pub machine_there : (p : Inside) (at : PortsAt) (seat : Seat) (place : ℕ) (s : SlotState) (o : Option PlainRdp) → ports_at p ≡ at → place ≡ place_of seat → place < 16 → ArePorts p → s ≡ get_or p.slots.items place s → o ≡ s.machine → is_some o ≡ has_machine at.ports seat
+machine_there p at seat place s o view e there a value is =
+    ap (λ (m : Option PlainRdp). is_some m) is ∙ (still s.machine ∙ ap (λ (m : Option PlainRdp). is_some m) (machine_in_place p at seat place s view e there a value))
   where
     still : (m : Option PlainRdp) → is_some m ≡ is_some (option_map (placed nowhere) m)
     still None = refl
     still (Some r) = refl
 
 -- and where it has none
-pub machine_absent : (p : Inside) (at : PortsAt) (app slot place : ℕ) (s : SlotState) → ports_at p ≡ at → place ≡ place_of app slot → place < 16 → ArePorts p → s ≡ get_or p.slots.items place s → s.machine ≡ None → machine_at at.ports app slot ≡ idle
-machine_absent p at app slot place s view e there a value none =
-    sym (ap (λ (o : Option PlainRdp). unwrap_or (option_map (placed nowhere) o) idle) (sym none) ∙ ap (λ (o : Option PlainRdp). unwrap_or o idle) (machine_in_place p at app slot place s view e there a value))
+pub machine_absent : (p : Inside) (at : PortsAt) (seat : Seat) (place : ℕ) (s : SlotState) → ports_at p ≡ at → place ≡ place_of seat → place < 16 → ArePorts p → s ≡ get_or p.slots.items place s → s.machine ≡ None → machine_at at.ports seat ≡ idle
+machine_absent p at seat place s view e there a value none =
+    sym (ap (λ (o : Option PlainRdp). unwrap_or (option_map (placed nowhere) o) idle) (sym none) ∙ ap (λ (o : Option PlainRdp). unwrap_or o idle) (machine_in_place p at seat place s view e there a value))
 
 -- it is housed
 pub housed_in : (p : Inside) (k : ℕ) (s : SlotState) (r : PlainRdp) → k < 16 → ArePorts p → s ≡ get_or p.slots.items k s → Some r ≡ s.machine → IsHoused p.token.name r
@@ -109,12 +110,12 @@ housed_in p k s r there a value some =
     subst (λ (o : Option PlainRdp). IfSome o (IsHoused p.token.name)) (sym (some ∙ ap (λ (x : SlotState). x.machine) value)) (All-get_or (AreHoused p.token.name) p.slots.items k s (omega (arith, there, a.slots)) a.housed)
 
 -- the ports, once it made a step
-pub machine_stepped : (p : Inside) (at : PortsAt) (app slot place : ℕ) (s : SlotState) (r new : PlainRdp) (step : PlainRdp → PlainRdp) → ports_at p ≡ at → place ≡ place_of app slot → place < 16 → ArePorts p → s ≡ get_or p.slots.items place s → Some r ≡ s.machine → placed nowhere new ≡ step (placed nowhere r)
-    → ports_at (record p { slots = with_item p.slots place (record s { machine = Some new }) }) ≡ with_ports_at at (with_machine at.ports app slot (step (machine_at at.ports app slot)))
-machine_stepped p at app slot place s r new step view e there a value some made =
-    machine_set p app slot place s (Some new) e there a value
-    ∙ (ap (λ (x : PortsAt). with_ports_at x (with_machine x.ports app slot (placed nowhere new))) view
-    ∙ ap (λ (q : PlainRdp). with_ports_at at (with_machine at.ports app slot q)) (made ∙ ap step (machine_seen p at app slot place s r view e there a value some)))
+pub machine_stepped : (p : Inside) (at : PortsAt) (seat : Seat) (place : ℕ) (s : SlotState) (r new : PlainRdp) (step : PlainRdp → PlainRdp) → ports_at p ≡ at → place ≡ place_of seat → place < 16 → ArePorts p → s ≡ get_or p.slots.items place s → Some r ≡ s.machine → placed nowhere new ≡ step (placed nowhere r)
+    → ports_at (record p { slots = with_item p.slots place (record s { machine = Some new }) }) ≡ with_ports_at at (with_machine at.ports seat (step (machine_at at.ports seat)))
+machine_stepped p at seat place s r new step view e there a value some made =
+    machine_set p seat place s (Some new) e there a value
+    ∙ (ap (λ (x : PortsAt). with_ports_at x (with_machine x.ports seat (placed nowhere new))) view
+    ∙ ap (λ (q : PlainRdp). with_ports_at at (with_machine at.ports seat q)) (made ∙ ap step (machine_seen p at seat place s r view e there a value some)))
 
 -- the packets that wait: another one, or none, in a place
 pub stalled_kept : (p : Inside) (app : ℕ) (s : Option Stalled) → IfSome s (IsWaiting p.token.name) → ArePorts p → ArePorts (record p { stalled = slice_set p.stalled app s })

@@ -1,12 +1,12 @@
 -- the timers open no connection, and so report nothing but the packets that are discarded
 use Rattle.std.specs.Prelude.{Bool, true, false, if◌then◌else◌, ◌==◌}
-use Rattle.std.proofs.Common.{◌≡◌, ℕ, List, [], ◌∷◌, ◌++◌, Option, None, refl, ap, ap₂, sym, ◌∙◌}
+use Rattle.std.proofs.Common.{◌≡◌, ℕ, List, [], ◌∷◌, ◌++◌, refl, ap, ap₂, sym, ◌∙◌}
 use Rattle.csp_deck.specs.Keeping.{PlainPile}
 use Rattle.csp_log.specs.declared.event.Event.{Event}
 use Rattle.csp_ports.proofs.Holding.{nil-left, nil-right}
 use Rattle.csp_ports.proofs.Settling.{by_dropped}
-use Rattle.csp_ports.specs.Came.{Comes}
-use Rattle.csp_ports.specs.PlainPorts.{PlainPorts, PlainStalled, PortsAt, machine_at, stalled_at, terms_at}
+use Rattle.csp_ports.specs.Came.{Comes, at_work}
+use Rattle.csp_ports.specs.PlainPorts.{PlainPorts, PortsAt, machine_at, terms_at}
 use Rattle.csp_ports.specs.Steps.{changed, closed_by, dropped, dropped_of, refused_by}
 use Rattle.csp_ports.specs.declared.terms.Wish.{Wish}
 use Rattle.csp_ports.specs.declared.terms.Wish.TheVariants as wish
@@ -20,27 +20,28 @@ use Rattle.csp_rdp.specs.declared.answers.State.TheVariants.{Closed, SynSent, Sy
 use Rattle.csp_rdp.specs.declared.answers.Cause.{Cause}
 use Rattle.csp_rdp_window.specs.Times.{has_passed}
 use Rattle.std.specs.Prelude.{Some}
+use Rattle.csp_base.specs.declared.seat.Seat.{Seat}
 
-closed_quiet : (w : Wish) (was : Bool) (app slot : ℕ) (p : PlainPorts) → (closed_by w was app slot p).events ≡ []
-closed_quiet wish.End was app slot p = refl
-closed_quiet wish.Nothing true app slot p = refl
-closed_quiet wish.Nothing false app slot p = refl
-closed_quiet wish.Connection was app slot p = refl
-closed_quiet wish.Ended was app slot p = refl
+closed_quiet : (w : Wish) (was : Bool) (seat : Seat) (p : PlainPorts) → (closed_by w was seat p).events ≡ []
+closed_quiet wish.End was seat p = refl
+closed_quiet wish.Nothing true seat p = refl
+closed_quiet wish.Nothing false seat p = refl
+closed_quiet wish.Connection was seat p = refl
+closed_quiet wish.Ended was seat p = refl
 
-refused_quiet : (w : Wish) (why : Cause) (app slot : ℕ) (p : PlainPorts) → (refused_by w why app slot p).events ≡ []
-refused_quiet wish.End why app slot p = refl
-refused_quiet wish.Nothing why app slot p = refl
-refused_quiet wish.Connection why app slot p = refl
-refused_quiet wish.Ended why app slot p = refl
+refused_quiet : (w : Wish) (why : Cause) (seat : Seat) (p : PlainPorts) → (refused_by w why seat p).events ≡ []
+refused_quiet wish.End why seat p = refl
+refused_quiet wish.Nothing why seat p = refl
+refused_quiet wish.Connection why seat p = refl
+refused_quiet wish.Ended why seat p = refl
 
 -- only an opening is reported
-pub changed_quiet : (x : Change) (app slot : ℕ) (p : PlainPorts) → (x ≡ change.Opened → ⊥) → (changed x app slot p).events ≡ []
-changed_quiet change.None app slot p h = refl
-changed_quiet change.Opened app slot p h = absurd (h refl)
-changed_quiet (change.Refused why) app slot p h = refused_quiet (terms_at p app slot).wish why app slot p
-changed_quiet change.Down app slot p h = refl
-changed_quiet change.Closed app slot p h = closed_quiet (terms_at p app slot).wish (machine_at p app slot).was_open app slot p
+pub changed_quiet : (x : Change) (seat : Seat) (p : PlainPorts) → (x ≡ change.Opened → ⊥) → (changed x seat p).events ≡ []
+changed_quiet change.None seat p h = refl
+changed_quiet change.Opened seat p h = absurd (h refl)
+changed_quiet (change.Refused why) seat p h = refused_quiet (terms_at p seat).wish why seat p
+changed_quiet change.Down seat p h = refl
+changed_quiet change.Closed seat p h = closed_quiet (terms_at p seat).wish (machine_at p seat).was_open seat p
 
 -- what a timer can come to
 broke : (b : Bool) (time : ℕ) (r : PlainRdp) (why : Cause) → r.state ≡ Open → change_between Open (if b then r else broken time r).state why ≡ change.Opened → ⊥
@@ -93,7 +94,7 @@ dropped_of_quiet (app ∷ apps) p none =
     let rest = dropped_of apps d.ports in
     ap₂ (λ xs ys. xs ++ ys) (dropped_quiet app p (nil-left d.loose rest.loose none)) (dropped_of_quiet apps d.ports (nil-right d.loose rest.loose none))
 
-pub drops_quietly : (old new : PortsAt) (before after : PlainPile) (earlier later : List Event) (apps : List ℕ) (p : PlainPorts) → Comes old new before after earlier later (dropped_of apps p) →
+pub drops_quietly : (old new : PortsAt) (before after : PlainPile) (earlier later : List Event) (apps : List ℕ) (p : PlainPorts) → Comes (at_work old before earlier) (at_work new after later) (dropped_of apps p) →
     earlier ≡ [] → after.contents ≡ [] → later ≡ []
 drops_quietly old new before after earlier later apps p comes first none =
     let all = ap (λ (t : PlainPile). t.contents) comes.trash in

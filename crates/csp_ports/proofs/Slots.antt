@@ -6,6 +6,7 @@ use Rattle.std.proofs.lemmas.List.{get_or-set_same, map-set}
 use Rattle.csp_arena.specs.Cells.{RegionName}
 use Rattle.std.specs.List.{flat_map}
 use Rattle.std.proofs.lemmas.List.Concat.{flat_map-cons}
+use Rattle.csp_base.specs.declared.seat.Seat.{Seat}
 use Rattle.csp_buffer.specs.PlainBuffer.{PlainBuffer}
 use Rattle.csp_ports.specs.Came.{pictures}
 use Rattle.csp_ports.specs.Held.{held, slot_buffers, stalled_buffers}
@@ -29,51 +30,51 @@ same_map {X} {Y} f (y ∷ ys) zero x d e = ap (λ (z : Y). z ∷ map f ys) e
 same_map {X} {Y} f (y ∷ ys) (suc k) x d e = ap (λ (l : List Y). f y ∷ l) (same_map f ys k x d e)
 
 -- a slot's terms and its machine are those that the lists have in its place
-pub terms_listed : (p : PlainPorts) (app slot : ℕ) → terms_at p app slot ≡ get_or (terms_of p) (place_of app slot) fresh
-terms_listed p app slot = get_map (λ (s : SlotState). s.terms) p.slots (place_of app slot) untouched
+pub terms_listed : (p : PlainPorts) (seat : Seat) → terms_at p seat ≡ get_or (terms_of p) (place_of seat) fresh
+terms_listed p seat = get_map (λ (s : SlotState). s.terms) p.slots (place_of seat) untouched
 
-pub machine_listed : (p : PlainPorts) (app slot : ℕ) → machine_at p app slot ≡ get_or (machines_of p) (place_of app slot) idle
-machine_listed p app slot = get_map machine_in p.slots (place_of app slot) untouched
+pub machine_listed : (p : PlainPorts) (seat : Seat) → machine_at p seat ≡ get_or (machines_of p) (place_of seat) idle
+machine_listed p seat = get_map machine_in p.slots (place_of seat) untouched
 
 -- other terms of a slot leave the machines, and another machine the terms
-pub terms_of_terms : (p : PlainPorts) (app slot : ℕ) (t : Terms) → terms_of (with_terms p app slot t) ≡ slice_set (terms_of p) (place_of app slot) t
-terms_of_terms p app slot t = map-set (λ (s : SlotState). s.terms) p.slots (place_of app slot) (record (state_at p app slot) { terms = t })
+pub terms_of_terms : (p : PlainPorts) (seat : Seat) (t : Terms) → terms_of (with_terms p seat t) ≡ slice_set (terms_of p) (place_of seat) t
+terms_of_terms p seat t = map-set (λ (s : SlotState). s.terms) p.slots (place_of seat) (record (state_at p seat) { terms = t })
 
-pub machines_of_terms : (p : PlainPorts) (app slot : ℕ) (t : Terms) → machines_of (with_terms p app slot t) ≡ machines_of p
-machines_of_terms p app slot t = same_map machine_in p.slots (place_of app slot) (record (state_at p app slot) { terms = t }) untouched refl
+pub machines_of_terms : (p : PlainPorts) (seat : Seat) (t : Terms) → machines_of (with_terms p seat t) ≡ machines_of p
+machines_of_terms p seat t = same_map machine_in p.slots (place_of seat) (record (state_at p seat) { terms = t }) untouched refl
 
-pub terms_of_machine : (p : PlainPorts) (app slot : ℕ) (o : Option PlainRdp) → terms_of (with_machine_or p app slot o) ≡ terms_of p
-terms_of_machine p app slot o = same_map (λ (s : SlotState). s.terms) p.slots (place_of app slot) (record (state_at p app slot) { machine = o }) untouched refl
+pub terms_of_machine : (p : PlainPorts) (seat : Seat) (o : Option PlainRdp) → terms_of (with_machine_or p seat o) ≡ terms_of p
+terms_of_machine p seat o = same_map (λ (s : SlotState). s.terms) p.slots (place_of seat) (record (state_at p seat) { machine = o }) untouched refl
 
-pub machines_of_machine : (p : PlainPorts) (app slot : ℕ) (o : Option PlainRdp) → machines_of (with_machine_or p app slot o) ≡ slice_set (machines_of p) (place_of app slot) (unwrap_or o idle)
-machines_of_machine p app slot o = map-set machine_in p.slots (place_of app slot) (record (state_at p app slot) { machine = o })
+pub machines_of_machine : (p : PlainPorts) (seat : Seat) (o : Option PlainRdp) → machines_of (with_machine_or p seat o) ≡ slice_set (machines_of p) (place_of seat) (unwrap_or o idle)
+machines_of_machine p seat o = map-set machine_in p.slots (place_of seat) (record (state_at p seat) { machine = o })
 
-pub terms_beside : (p : PlainPorts) (app slot : ℕ) (o : Option PlainRdp) (a s : ℕ) → terms_at (with_machine_or p app slot o) a s ≡ terms_at p a s
-terms_beside p app slot o a s =
-    terms_listed (with_machine_or p app slot o) a s
-    ∙ (ap (λ (ts : List Terms). get_or ts (place_of a s) fresh) (terms_of_machine p app slot o)
-    ∙ sym (terms_listed p a s))
+pub terms_beside : (p : PlainPorts) (seat : Seat) (o : Option PlainRdp) (other : Seat) → terms_at (with_machine_or p seat o) other ≡ terms_at p other
+terms_beside p seat o other =
+    terms_listed (with_machine_or p seat o) other
+    ∙ (ap (λ (ts : List Terms). get_or ts (place_of other) fresh) (terms_of_machine p seat o)
+    ∙ sym (terms_listed p other))
 
-pub machine_beside : (p : PlainPorts) (app slot : ℕ) (t : Terms) (a s : ℕ) → machine_at (with_terms p app slot t) a s ≡ machine_at p a s
-machine_beside p app slot t a s =
-    machine_listed (with_terms p app slot t) a s
-    ∙ (ap (λ (rs : List PlainRdp). get_or rs (place_of a s) idle) (machines_of_terms p app slot t)
-    ∙ sym (machine_listed p a s))
+pub machine_beside : (p : PlainPorts) (seat : Seat) (t : Terms) (other : Seat) → machine_at (with_terms p seat t) other ≡ machine_at p other
+machine_beside p seat t other =
+    machine_listed (with_terms p seat t) other
+    ∙ (ap (λ (rs : List PlainRdp). get_or rs (place_of other) idle) (machines_of_terms p seat t)
+    ∙ sym (machine_listed p other))
 
 -- and they are what was put there
-pub terms_now : (p : PlainPorts) (app slot : ℕ) (t : Terms) → place_of app slot < length p.slots → terms_at (with_terms p app slot t) app slot ≡ t
-terms_now p app slot t there = ap (λ (s : SlotState). s.terms) (get_or-set_same p.slots (place_of app slot) (record (state_at p app slot) { terms = t }) untouched there)
+pub terms_now : (p : PlainPorts) (seat : Seat) (t : Terms) → place_of seat < length p.slots → terms_at (with_terms p seat t) seat ≡ t
+terms_now p seat t there = ap (λ (s : SlotState). s.terms) (get_or-set_same p.slots (place_of seat) (record (state_at p seat) { terms = t }) untouched there)
 
-pub machine_now : (p : PlainPorts) (app slot : ℕ) (o : Option PlainRdp) → place_of app slot < length p.slots → machine_at (with_machine_or p app slot o) app slot ≡ unwrap_or o idle
-machine_now p app slot o there = ap machine_in (get_or-set_same p.slots (place_of app slot) (record (state_at p app slot) { machine = o }) untouched there)
+pub machine_now : (p : PlainPorts) (seat : Seat) (o : Option PlainRdp) → place_of seat < length p.slots → machine_at (with_machine_or p seat o) seat ≡ unwrap_or o idle
+machine_now p seat o there = ap machine_in (get_or-set_same p.slots (place_of seat) (record (state_at p seat) { machine = o }) untouched there)
 
 -- a slot without a machine has one that is idle
 none_idle : (o : Option PlainRdp) → is_some o ≡ false → unwrap_or o idle ≡ idle
 none_idle None e = refl
 none_idle (Some r) e = cc
 
-pub machine_none : (p : PlainPorts) (app slot : ℕ) → has_machine p app slot ≡ false → machine_at p app slot ≡ idle
-machine_none p app slot e = none_idle (state_at p app slot).machine e
+pub machine_none : (p : PlainPorts) (seat : Seat) → has_machine p seat ≡ false → machine_at p seat ≡ idle
+machine_none p seat e = none_idle (state_at p seat).machine e
 
 -- what is kept of a slot, with its machine's buffers of this region; an idle one stays as it is
 abbrev pub placed_state : RegionName → SlotState → SlotState
@@ -111,5 +112,5 @@ held_same p q b c =
     ap₂ (λ (ss : List (Option PlainStalled)) (bs : List PlainBuffer). pictures (flat_map stalled_buffers ss ++ bs)) c
     (listed_buffers q.slots ∙ (ap (λ (rs : List PlainRdp). flat_map rdp_buffers rs) b ∙ sym (listed_buffers p.slots)))
 
-pub held_terms : (p : PlainPorts) (app slot : ℕ) (t : Terms) → held (with_terms p app slot t) ≡ held p
-held_terms p app slot t = held_same p (with_terms p app slot t) (machines_of_terms p app slot t) refl
+pub held_terms : (p : PlainPorts) (seat : Seat) (t : Terms) → held (with_terms p seat t) ≡ held p
+held_terms p seat t = held_same p (with_terms p seat t) (machines_of_terms p seat t) refl

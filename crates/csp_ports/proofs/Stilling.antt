@@ -1,13 +1,15 @@
 -- where no timer has anything to do, trying the timers changes nothing
-use Rattle.std.specs.Prelude.{◌/◌, ◌%◌, ◌||◌, Bool, false, true, not, is_some, unwrap_or, slice_set, Option, None, Some, get_or}
+use Rattle.std.specs.Prelude.{◌||◌, Bool, false, true, not, is_some, unwrap_or, slice_set, Option, None, Some, get_or}
 use Rattle.std.specs.List.{All, list_any, range_with_len}
 use Rattle.std.specs.Option.{option_map}
 use Rattle.std.proofs.Common.{◌≡◌, ℕ, zero, suc, ◌+◌, ◌-◌, ◌*◌, ◌<◌, List, [], ◌∷◌, ◌++◌, map, refl, ap, ap₂, subst, sym, ◌∙◌}
 use Rattle.std.proofs.lemmas.Bool.{or_parts}
 use Rattle.std.proofs.lemmas.List.{set-get_or}
 use Rattle.std.proofs.lemmas.List.Elements.{All-head, All-map, All-tail, All-weaker}
+use Rattle.csp_base.specs.Seat.{seat}
+use Rattle.csp_base.specs.declared.seat.Seat.{Seat}
 use Rattle.csp_buffer.specs.PlainBuffer.{PlainBuffer}
-use Rattle.csp_conn.specs.PlainConns.{place_of}
+use Rattle.csp_conn.specs.PlainConns.{place_of, seat_of}
 use Rattle.csp_base.specs.declared.limits.TheConstants.{SLOTS}
 use Rattle.csp_deck.specs.Regions.{nowhere}
 use Rattle.csp_ports.proofs.Following.{range_next}
@@ -54,22 +56,22 @@ own_machine s e = go s.machine e
     go None e = cc
     go (Some r) e = refl
 
-still : (app slot : ℕ) (p : PlainPorts) → has_machine p app slot ≡ true → unneeded (machine_at p app slot) ≡ [] → stepped app slot (machine_at p app slot) p ≡ come p
-still app slot p there rest =
-    let r = machine_at p app slot in
-    ap₂ (λ (q : PlainRdp) (us : List PlainBuffer). record { ports = with_machine p app slot q; loose = pictures us; events = [] }) (rested-still r rest) rest
-    ∙ ap (λ (ss : List SlotState). come (record p { slots = ss })) (ap (slice_set p.slots (place_of app slot)) (own_machine (state_at p app slot) there) ∙ set-get_or p.slots (place_of app slot) untouched)
+still : (seat : Seat) (p : PlainPorts) → has_machine p seat ≡ true → unneeded (machine_at p seat) ≡ [] → stepped seat (machine_at p seat) p ≡ come p
+still seat p there rest =
+    let r = machine_at p seat in
+    ap₂ (λ (q : PlainRdp) (us : List PlainBuffer). record { ports = with_machine p seat q; loose = pictures us; events = [] }) (rested-still r rest) rest
+    ∙ ap (λ (ss : List SlotState). come (record p { slots = ss })) (ap (slice_set p.slots (place_of seat)) (own_machine (state_at p seat) there) ∙ set-get_or p.slots (place_of seat) untouched)
 
-timed_still : (time app slot : ℕ) (p : PlainPorts) → times_out time (machine_at p app slot) ≡ false → unneeded (machine_at p app slot) ≡ [] → timed_at time app slot p ≡ come p
-timed_still time app slot p late rest = go (has_machine p app slot) refl
+timed_still : (time : ℕ) (seat : Seat) (p : PlainPorts) → times_out time (machine_at p seat) ≡ false → unneeded (machine_at p seat) ≡ [] → timed_at time seat p ≡ come p
+timed_still time seat p late rest = go (has_machine p seat) refl
   where
-    go : (b : Bool) → has_machine p app slot ≡ b → where_machine b (went (machine_at p app slot).state machine_why.Timeout app slot (ticked time (machine_at p app slot))) p ≡ come p
+    go : (b : Bool) → has_machine p seat ≡ b → where_machine b (went (machine_at p seat).state machine_why.Timeout seat (ticked time (machine_at p seat))) p ≡ come p
     go false e = refl
     go true e =
-        let r = machine_at p app slot in
-        ap (λ (q : PlainRdp). went r.state machine_why.Timeout app slot q p) (in_time time r late)
-        ∙ (ap (λ (c : Came). (then) c (changed (change_between r.state r.state machine_why.Timeout) app slot)) (still app slot p e rest)
-        ∙ ap (λ (x : Change). (then) (come p) (changed x app slot)) (stays r.state machine_why.Timeout))
+        let r = machine_at p seat in
+        ap (λ (q : PlainRdp). went r.state machine_why.Timeout seat q p) (in_time time r late)
+        ∙ (ap (λ (c : Came). (then) c (changed (change_between r.state r.state machine_why.Timeout) seat)) (still seat p e rest)
+        ∙ ap (λ (x : Change). (then) (come p) (changed x seat)) (stays r.state machine_why.Timeout))
 
 -- ---- several
 
@@ -86,14 +88,14 @@ timed_in_still : (time : ℕ) (ks : List ℕ) (p : PlainPorts) → All (λ r. un
 timed_in_still time [] p rest late = refl
 timed_in_still time (k ∷ ks) p rest late =
     let parts = or_parts (times_out_at time p k) (list_any (times_out_at time p) ks) late in
-    then_still (timed_at time (k / SLOTS) (k % SLOTS) p) (timed_in time ks) p
-    (timed_still time (k / SLOTS) (k % SLOTS) p parts.0 (subst (λ (r : PlainRdp). unneeded r ≡ []) (sym (machine_listed p (k / SLOTS) (k % SLOTS))) (rest_at (machines_of p) (place_of (k / SLOTS) (k % SLOTS)) rest)))
+    then_still (timed_at time (seat_of k) p) (timed_in time ks) p
+    (timed_still time (seat_of k) p parts.0 (subst (λ (r : PlainRdp). unneeded r ≡ []) (sym (machine_listed p (seat_of k))) (rest_at (machines_of p) (place_of (seat_of k)) rest)))
     (timed_in_still time ks p rest parts.1)
 
 -- ---- the packets that wait
 
-stranded_shut : (p : PlainPorts) (app : ℕ) (s : PlainStalled) → stalled_at p app ≡ Some s → is_open (machine_at p app s.slot).state ≡ false → is_stranded p app ≡ true
-stranded_shut p app s e shut = ap (λ (o : Option PlainStalled). unwrap_or (option_map (λ s. not (is_open (machine_at p app s.slot).state)) o) false) e ∙ ap not shut
+stranded_shut : (p : PlainPorts) (app : ℕ) (s : PlainStalled) → stalled_at p app ≡ Some s → is_open (machine_at p (seat app s.slot)).state ≡ false → is_stranded p app ≡ true
+stranded_shut p app s e shut = ap (λ (o : Option PlainStalled). unwrap_or (option_map (λ s. not (is_open (machine_at p (seat app s.slot)).state)) o) false) e ∙ ap not shut
 
 dropped_still : (app : ℕ) (p : PlainPorts) → is_stranded p app ≡ false → dropped app p ≡ come p
 dropped_still app p h = by_dropped (λ c. c ≡ come p) app p (λ opens. refl) (λ s e shut. absurd (true_false (sym (stranded_shut p app s e shut) ∙ h)))

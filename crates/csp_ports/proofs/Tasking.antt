@@ -4,6 +4,8 @@ use Rattle.std.specs.Option.{option_map, option_to_list}
 use Rattle.std.proofs.Common.{◌≡◌, ℕ, ◌+◌, ◌≤◌, Bool, true, false, List, [], ◌∷◌, ◌++◌, length, map, take, drop, arith, ap, refl, subst, sym, ◌∙◌}
 use Rattle.std.proofs.lemmas.List.{append-nil, length-append, length-map, length-take}
 use Rattle.std.proofs.lemmas.List.Sums.{sum_by-cons}
+use Rattle.csp_base.specs.Seat.{seat}
+use Rattle.csp_base.specs.declared.seat.Seat.{Seat}
 use Rattle.csp_arena.specs.Cells.{RegionName}
 use Rattle.csp_buffer.specs.Content.{Content}
 use Rattle.csp_buffer.specs.PlainBuffer.{PlainBuffer}
@@ -12,10 +14,11 @@ use Rattle.csp_deck.specs.Keeping.{PlainPile, with_contents}
 use Rattle.csp_log.specs.declared.event.Event.{Event}
 use Rattle.csp_log.specs.declared.event.Event.TheVariants as event
 use Rattle.csp_ports.proofs.Settling.{by_settled}
-use Rattle.csp_ports.specs.Came.{Comes, come, pictures}
-use Rattle.csp_ports.specs.Kept.{AdmitsIn, IsHoused, wished, wishes}
+use Rattle.csp_ports.proofs.Waiting.{AdmitsIn}
+use Rattle.csp_ports.specs.Came.{Comes, come, pictures, at_work}
+use Rattle.csp_ports.specs.Kept.{IsHoused, wished, wishes}
 use Rattle.csp_ports.specs.Packets.{admitting_by, stray_events, submitting, submitting_in}
-use Rattle.csp_ports.specs.PlainPorts.{PlainPorts, PlainStalled, PortsAt, anywhere, machine_at, terms_at, with_ports_at, with_stalled}
+use Rattle.csp_ports.specs.PlainPorts.{PlainPorts, PortsAt, anywhere, machine_at, terms_at, with_ports_at, with_stalled}
 use Rattle.csp_ports.specs.Steps.{has_room, settled}
 use Rattle.csp_ports.specs.declared.terms.Terms.{Terms}
 use Rattle.csp_ports.specs.declared.terms.Wish.{Wish}
@@ -40,7 +43,7 @@ few_wishes [] = omega arith
 few_wishes (t ∷ ts) = omega (arith, sum_by-cons (λ (t : Terms). wished t.wish) t ts, one_wish t.wish, few_wishes ts)
 
 pub wishes_few : (app : ℕ) (terms : List Terms) → wishes app terms ≤ 4
-wishes_few app terms = omega (arith, few_wishes (take 4 (drop (place_of app 0) terms)), length-take 4 (drop (place_of app 0) terms))
+wishes_few app terms = omega (arith, few_wishes (take 4 (drop (place_of (seat app 0)) terms)), length-take 4 (drop (place_of (seat app 0)) terms))
 
 -- a machine that is housed is so after a step that keeps what this asks
 pub housed_next : (name : RegionName) (old new : PlainRdp) → AreAllIn name new → IsWhole new → unneeded new ≡ [] → length (rdp_numbers new) ≤ length (rdp_numbers old) → IsHoused name old → IsHoused name new
@@ -85,18 +88,18 @@ ok_err u b e = cc
 err_same : (a b : PlainBuffer) → ◌≡◌ {A = Result Unit PlainBuffer} (Err a) (Err b) → a ≡ b
 err_same a b e = cc
 
-pub admitted_now : (room : Bool) (answer : Result Unit PlainBuffer) (u : Unit) (old new : PortsAt) (app slot : ℕ) (b : PlainBuffer) (time : ℕ) → answer ≡ Ok u → AdmitsIn room answer old new app slot b time
-    → new ≡ with_ports_at old (admitting_by room old.ports app slot b.picture time)
-admitted_now true answer u old new app slot b time is h = h.1
-admitted_now false answer u old new app slot b time is h = absurd (ok_err u b (sym is ∙ h.0))
+pub admitted_now : (room : Bool) (answer : Result Unit PlainBuffer) (u : Unit) (old new : PortsAt) (seat : Seat) (b : PlainBuffer) (time : ℕ) → answer ≡ Ok u → AdmitsIn room answer old new seat b time
+    → new ≡ with_ports_at old (admitting_by room old.ports seat b.picture time)
+admitted_now true answer u old new seat b time is h = h.1
+admitted_now false answer u old new seat b time is h = absurd (ok_err u b (sym is ∙ h.0))
 
-pub admitted_later : (room : Bool) (answer : Result Unit PlainBuffer) (back : PlainBuffer) (old mid new : PortsAt) (app slot : ℕ) (b : PlainBuffer) (time : ℕ) → answer ≡ Err back → AdmitsIn room answer old mid app slot b time
-    → new ≡ with_ports_at mid (with_stalled mid.ports app (Some (record { slot = slot; buffer = anywhere back.picture }))) → new ≡ with_ports_at old (admitting_by room old.ports app slot b.picture time)
-admitted_later true answer back old mid new app slot b time is h k = absurd (ok_err tt back (sym h.0 ∙ is))
-admitted_later false answer back old mid new app slot b time is h k =
+pub admitted_later : (room : Bool) (answer : Result Unit PlainBuffer) (back : PlainBuffer) (old mid new : PortsAt) (seat : Seat) (b : PlainBuffer) (time : ℕ) → answer ≡ Err back → AdmitsIn room answer old mid seat b time
+    → new ≡ with_ports_at mid (with_stalled mid.ports seat.app (Some (record { slot = seat.slot; buffer = anywhere back.picture }))) → new ≡ with_ports_at old (admitting_by room old.ports seat b.picture time)
+admitted_later true answer back old mid new seat b time is h k = absurd (ok_err tt back (sym h.0 ∙ is))
+admitted_later false answer back old mid new seat b time is h k =
     let same : back ≡ b = err_same back b (sym is ∙ h.0) in
-    k ∙ (ap (λ (x : PortsAt). with_ports_at x (with_stalled x.ports app (Some (record { slot = slot; buffer = anywhere back.picture })))) h.1
-    ∙ ap (λ (x : PlainBuffer). with_ports_at old (with_stalled old.ports app (Some (record { slot = slot; buffer = anywhere x.picture })))) same)
+    k ∙ (ap (λ (x : PortsAt). with_ports_at x (with_stalled x.ports seat.app (Some (record { slot = seat.slot; buffer = anywhere back.picture })))) h.1
+    ∙ ap (λ (x : PlainBuffer). with_ports_at old (with_stalled old.ports seat.app (Some (record { slot = seat.slot; buffer = anywhere x.picture })))) same)
 
 -- no more than one event
 pub stray_few : (o : Option PlainBuffer) (stray : Bool) → length (stray_events o stray) ≤ 1
@@ -105,25 +108,25 @@ stray_few (Some b) true = omega arith
 stray_few (Some b) false = omega arith
 
 -- these ports, and nothing besides
-pub come_comes : (old new : PortsAt) (p : PlainPorts) (trash : PlainPile) (events : List Event) → new ≡ with_ports_at old p → Comes old new trash trash events events (come p)
+pub come_comes : (old new : PortsAt) (p : PlainPorts) (trash : PlainPile) (events : List Event) → new ≡ with_ports_at old p → Comes (at_work old trash events) (at_work new trash events) (come p)
 come_comes old new p trash events e = record {
   ports = e;
   trash = ap (with_contents trash) (sym (append-nil trash.contents));
   events = sym (append-nil events);
 }
 
-pub admit_back : (room : Bool) (answer : Result Unit PlainBuffer) (back : PlainBuffer) (old mid : PortsAt) (app slot : ℕ) (b : PlainBuffer) (time : ℕ) → answer ≡ Err back → AdmitsIn room answer old mid app slot b time → (back ≡ b) × (mid ≡ old)
-admit_back true answer back old mid app slot b time is h = absurd (ok_err tt back (sym h.0 ∙ is))
-admit_back false answer back old mid app slot b time is h = (err_same back b (sym is ∙ h.0), h.1)
+pub admit_back : (room : Bool) (answer : Result Unit PlainBuffer) (back : PlainBuffer) (old mid : PortsAt) (seat : Seat) (b : PlainBuffer) (time : ℕ) → answer ≡ Err back → AdmitsIn room answer old mid seat b time → (back ≡ b) × (mid ≡ old)
+admit_back true answer back old mid seat b time is h = absurd (ok_err tt back (sym h.0 ∙ is))
+admit_back false answer back old mid seat b time is h = (err_same back b (sym is ∙ h.0), h.1)
 
-pub admitting_apps : (room : Bool) (p : PlainPorts) (app slot : ℕ) (b : Content) (time : ℕ) → (admitting_by room p app slot b time).conns.apps ≡ p.conns.apps
-admitting_apps true p app slot b time = refl
-admitting_apps false p app slot b time = refl
+pub admitting_apps : (room : Bool) (p : PlainPorts) (seat : Seat) (b : Content) (time : ℕ) → (admitting_by room p seat b time).conns.apps ≡ p.conns.apps
+admitting_apps true p seat b time = refl
+admitting_apps false p seat b time = refl
 
-pub submitted_comes : (old new : PortsAt) (trash : PlainPile) (later : List Event) (app slot : ℕ) (b : Content) (time : ℕ) → (machine_at old.ports app slot).state ≡ state.Open
-    → new ≡ with_ports_at old (admitting_by (has_room (machine_at old.ports app slot)) old.ports app slot b time) → later ≡ event.Sent slot (terms_at old.ports app slot).ordinal ∷ [] → Comes old new trash trash [] later (submitting old.ports app slot b time)
-submitted_comes old new trash later app slot b time opened e l =
-    subst (λ (s : State). Comes old new trash trash [] later (submitting_in s old.ports app slot b time)) (sym opened)
+pub submitted_comes : (old new : PortsAt) (trash : PlainPile) (later : List Event) (seat : Seat) (b : Content) (time : ℕ) → (machine_at old.ports seat).state ≡ state.Open
+    → new ≡ with_ports_at old (admitting_by (has_room (machine_at old.ports seat)) old.ports seat b time) → later ≡ event.Sent seat.slot (terms_at old.ports seat).ordinal ∷ [] → Comes (at_work old trash []) (at_work new trash later) (submitting old.ports seat b time)
+submitted_comes old new trash later seat b time opened e l =
+    subst (λ (s : State). Comes (at_work old trash []) (at_work new trash later) (submitting_in s old.ports seat b time)) (sym opened)
     (record { ports = e; trash = ap (with_contents trash) (sym (append-nil trash.contents)); events = l })
 
 -- ---- applications stay

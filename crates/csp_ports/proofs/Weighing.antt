@@ -5,6 +5,7 @@ use Rattle.std.proofs.Common.{◌≡◌, ℕ, zero, suc, ◌+◌, ◌<◌, ◌�
 use Rattle.std.proofs.lemmas.List.{length-append, length-map, map-append}
 use Rattle.std.proofs.lemmas.List.Concat.{flat_map-cons}
 use Rattle.std.proofs.lemmas.List.Sums.{get_or-le-sum_by, sum_by-cons, sum_by-set}
+use Rattle.csp_base.specs.declared.seat.Seat.{Seat}
 use Rattle.csp_buffer.specs.Content.{Content}
 use Rattle.csp_buffer.specs.PlainBuffer.{PlainBuffer}
 use Rattle.csp_conn.specs.PlainConns.{place_of}
@@ -89,15 +90,15 @@ sum_set f [] i y d same = ap (λ (n : ℕ). 0 + n) same
 sum_set f (x ∷ xs) zero y d same = omega (arith, sum_by-cons f y xs, sum_by-cons f x xs)
 sum_set f (x ∷ xs) (suc i) y d same = omega (arith, sum_by-cons f x (slice_set xs i y), sum_by-cons f x xs, sum_set f xs i y d same)
 
-pub machine_tallied : (o : Option ℕ) (p : PlainPorts) (app slot : ℕ) (m : Option PlainRdp) → place_of app slot < length p.slots → weigh o (held (with_machine_or p app slot m)) + tally o (rdp_numbers (machine_at p app slot)) ≡ weigh o (held p) + tally o (rdp_numbers (unwrap_or m idle))
-machine_tallied o p app slot m there =
+pub machine_tallied : (o : Option ℕ) (p : PlainPorts) (seat : Seat) (m : Option PlainRdp) → place_of seat < length p.slots → weigh o (held (with_machine_or p seat m)) + tally o (rdp_numbers (machine_at p seat)) ≡ weigh o (held p) + tally o (rdp_numbers (unwrap_or m idle))
+machine_tallied o p seat m there =
     omega (
       arith,
       held_weight o p,
-      held_weight o (with_machine_or p app slot m),
+      held_weight o (with_machine_or p seat m),
       machine_tally o (unwrap_or m idle),
-      machine_tally o (machine_at p app slot),
-      sum_by-set (λ s. weight o (slot_buffers s)) p.slots (place_of app slot) (record (state_at p app slot) { machine = m }) untouched there,
+      machine_tally o (machine_at p seat),
+      sum_by-set (λ s. weight o (slot_buffers s)) p.slots (place_of seat) (record (state_at p seat) { machine = m }) untouched there,
     )
 
 -- and another packet that waits, or none
@@ -105,19 +106,19 @@ pub waiting_tallied : (o : Option ℕ) (p : PlainPorts) (app : ℕ) (v : Option 
 waiting_tallied o p app v there = omega (arith, held_weight o p, held_weight o (with_stalled p app v), sum_by-set (λ s. weight o (stalled_buffers s)) p.stalled app v None there)
 
 -- what a machine holds is among what is held
-pub machine_among : (o : Option ℕ) (p : PlainPorts) (app slot : ℕ) → place_of app slot < length p.slots → tally o (rdp_numbers (machine_at p app slot)) ≤ weigh o (held p)
-machine_among o p app slot there =
-    omega (arith, held_weight o p, machine_tally o (machine_at p app slot), get_or-le-sum_by (λ s. weight o (slot_buffers s)) p.slots (place_of app slot) untouched there)
+pub machine_among : (o : Option ℕ) (p : PlainPorts) (seat : Seat) → place_of seat < length p.slots → tally o (rdp_numbers (machine_at p seat)) ≤ weigh o (held p)
+machine_among o p seat there =
+    omega (arith, held_weight o p, machine_tally o (machine_at p seat), get_or-le-sum_by (λ s. weight o (slot_buffers s)) p.slots (place_of seat) untouched there)
 
 -- another machine that holds nothing, or none, in a place that may not be there
-pub machine_gone : (o : Option ℕ) (p : PlainPorts) (app slot : ℕ) (m : Option PlainRdp) → rdp_numbers (unwrap_or m idle) ≡ [] → weigh o (held (with_machine_or p app slot m)) + weight o (rdp_buffers (machine_at p app slot)) ≡ weigh o (held p)
-machine_gone o p app slot m empty =
+pub machine_gone : (o : Option ℕ) (p : PlainPorts) (seat : Seat) (m : Option PlainRdp) → rdp_numbers (unwrap_or m idle) ≡ [] → weigh o (held (with_machine_or p seat m)) + weight o (rdp_buffers (machine_at p seat)) ≡ weigh o (held p)
+machine_gone o p seat m empty =
     let nothing : weight o (rdp_buffers (unwrap_or m idle)) ≡ tally o [] = machine_tally o (unwrap_or m idle) ∙ ap (tally o) empty in
     omega (
       arith,
       held_weight o p,
-      held_weight o (with_machine_or p app slot m),
+      held_weight o (with_machine_or p seat m),
       tally_none o,
       nothing,
-      sum_set (λ s. weight o (slot_buffers s)) p.slots (place_of app slot) (record (state_at p app slot) { machine = m }) untouched (machine_tally o idle ∙ sym nothing),
+      sum_set (λ s. weight o (slot_buffers s)) p.slots (place_of seat) (record (state_at p seat) { machine = m }) untouched (machine_tally o idle ∙ sym nothing),
     )

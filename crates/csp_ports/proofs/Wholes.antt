@@ -4,6 +4,7 @@ use Rattle.std.specs.Option.{option_map}
 use Rattle.std.proofs.Common.{◌≡◌, ℕ, ◌<◌, List, [], ◌∷◌, map, arith, ap, subst, sym, ◌∙◌}
 use Rattle.std.proofs.lemmas.List.{length-map}
 use Rattle.std.proofs.lemmas.List.Elements.{All-map, All-weaker}
+use Rattle.csp_base.specs.declared.seat.Seat.{Seat}
 use Rattle.csp_arena.specs.Cells.{RegionName}
 use Rattle.csp_buffer.specs.PlainBuffer.{PlainBuffer}
 use Rattle.csp_conn.specs.PlainConns.{IsThere, place_of}
@@ -115,5 +116,5 @@ pub whole_seen : (p : Inside) (at : PortsAt) → ports_at p ≡ at → ArePorts 
 whole_seen p at view a = subst (λ (x : PortsAt). AreWhole x.ports) view (whole_in p a)
 
 -- the place of a slot that is there is one of theirs
-pub there_few : (p : PlainPorts) (app slot : ℕ) → AreWhole p → IsThere p.conns app slot → (app < 4) × (place_of app slot < 16)
-there_few p app slot h there = (omega (arith, h.few, there.of_node), omega (arith, h.few, there.of_node, there.of_app))
+pub there_few : (p : PlainPorts) (seat : Seat) → AreWhole p → IsThere p.conns seat → (seat.app < 4) × (place_of seat < 16)
+there_few p seat h there = (omega (arith, h.few, there.of_node), omega (arith, h.few, there.of_node, there.of_app))

@@ -5,6 +5,8 @@ use Rattle.std.proofs.lemmas.Bool.{ltb-true, ltb-false}
 use Rattle.std.proofs.lemmas.List.{drop-set-add, drop-set-lt, take-set-le, get_or-drop, get_or-take, length-drop, length-take}
 use Rattle.std.proofs.Math.Seq.{take-set-lt}
 use Rattle.std.proofs.lemmas.List.Sums.{sum_by-set}
+use Rattle.csp_base.specs.Seat.{seat}
+use Rattle.csp_base.specs.declared.seat.Seat.{Seat}
 use Rattle.csp_conn.specs.PlainConns.{place_of}
 use Rattle.csp_ports.specs.Kept.{wished, wishes}
 use Rattle.csp_ports.specs.declared.terms.Terms.{Terms}
@@ -26,24 +28,24 @@ abbrev weight : Terms → ℕ
 weight t = wished t.wish
 
 -- other terms at a slot of the application
-pub wishes_at : (app slot : ℕ) (terms : List Terms) (t d : Terms) → slot < 4 → place_of app slot < length terms → wishes app (slice_set terms (place_of app slot) t) + weight (get_or terms (place_of app slot) d) ≡ wishes app terms + weight t
-wishes_at app slot terms t d h there = inside weight (place_of app 0) 4 slot (place_of app slot) terms t d (omega arith) h there
+pub wishes_at : (at : Seat) (terms : List Terms) (t d : Terms) → at.slot < 4 → place_of at < length terms → wishes at.app (slice_set terms (place_of at) t) + weight (get_or terms (place_of at) d) ≡ wishes at.app terms + weight t
+wishes_at at terms t d h there = inside weight (place_of (seat at.app 0)) 4 at.slot (place_of at) terms t d (omega arith) h there
 
 -- and at one of another
-pub wishes_later : (app other slot : ℕ) (terms : List Terms) (t : Terms) → slot < 4 → other < app → wishes other (slice_set terms (place_of app slot) t) ≡ wishes other terms
-wishes_later app other slot terms t h far = behind weight (place_of other 0) 4 (place_of app slot - place_of other 0) (place_of app slot) terms t (omega (arith, h, far)) (omega (arith, h, far))
+pub wishes_later : (at : Seat) (other : ℕ) (terms : List Terms) (t : Terms) → at.slot < 4 → other < at.app → wishes other (slice_set terms (place_of at) t) ≡ wishes other terms
+wishes_later at other terms t h far = behind weight (place_of (seat other 0)) 4 (place_of at - place_of (seat other 0)) (place_of at) terms t (omega (arith, h, far)) (omega (arith, h, far))
 
-pub wishes_earlier : (app other slot : ℕ) (terms : List Terms) (t : Terms) → slot < 4 → app < other → wishes other (slice_set terms (place_of app slot) t) ≡ wishes other terms
-wishes_earlier app other slot terms t h far = before weight (place_of other 0) 4 (place_of app slot) terms t (omega (arith, h, far))
+pub wishes_earlier : (at : Seat) (other : ℕ) (terms : List Terms) (t : Terms) → at.slot < 4 → at.app < other → wishes other (slice_set terms (place_of at) t) ≡ wishes other terms
+wishes_earlier at other terms t h far = before weight (place_of (seat other 0)) 4 (place_of at) terms t (omega (arith, h, far))
 
 -- other terms at a slot, with no more answers still to come than may be
-pub due_after : (most app slot : ℕ) (terms : List Terms) (owed : ℕ → ℕ) (t d : Terms) → slot < 4 → place_of app slot < length terms → ((a : ℕ) → owed a + wishes a terms ≤ most)
-    → (owed app + wishes app terms) + weight t ≤ most + weight (get_or terms (place_of app slot) d) → (a : ℕ) → owed a + wishes a (slice_set terms (place_of app slot) t) ≤ most
-due_after most app slot terms owed t d h there due more a = by_app _ refl _ refl
+pub due_after : (most : ℕ) (at : Seat) (terms : List Terms) (owed : ℕ → ℕ) (t d : Terms) → at.slot < 4 → place_of at < length terms → ((a : ℕ) → owed a + wishes a terms ≤ most)
+    → (owed at.app + wishes at.app terms) + weight t ≤ most + weight (get_or terms (place_of at) d) → (a : ℕ) → owed a + wishes a (slice_set terms (place_of at) t) ≤ most
+due_after most at terms owed t d h there due more a = by_app _ refl _ refl
   where
-    by_app : (e : Bool) → nat_lt a app ≡ e → (f : Bool) → nat_lt app a ≡ f → owed a + wishes a (slice_set terms (place_of app slot) t) ≤ most
-    by_app true e f g = rw (wishes_later app a slot terms t h (ltb-true a app e)) (due a)
-    by_app false e true g = rw (wishes_earlier app a slot terms t h (ltb-true app a g)) (due a)
+    by_app : (e : Bool) → nat_lt a at.app ≡ e → (f : Bool) → nat_lt at.app a ≡ f → owed a + wishes a (slice_set terms (place_of at) t) ≤ most
+    by_app true e f g = rw (wishes_later at a terms t h (ltb-true a at.app e)) (due a)
+    by_app false e true g = rw (wishes_earlier at a terms t h (ltb-true at.app a g)) (due a)
     by_app false e false g =
-        let same : a ≡ app = omega (arith, ltb-false a app e, ltb-false app a g) in
-        rw same (omega (arith, wishes_at app slot terms t d h there, more))
+        let same : a ≡ at.app = omega (arith, ltb-false a at.app e, ltb-false at.app a g) in
+        rw same (omega (arith, wishes_at at terms t d h there, more))

@@ -34,8 +34,18 @@ discarding why b p = record { ports = p; loose = b ∷ []; events = event.Discar
 abbrev pub pictures : List PlainBuffer → List Content
 pictures bs = map (λ b. b.picture) bs
 
+-- what the code of a step works on: the ports, the trash, and the report
+pub record AtWork : Type 0 where
+  pub ports : PortsAt
+  pub trash : PlainPile
+  pub report : List Event
+
+-- these ports with this trash and this report
+abbrev pub at_work : PortsAt → PlainPile → List Event → AtWork
+at_work p trash report = record { ports = p; trash = trash; report = report }
+
 -- the code comes to it: its ports are these, the trash has the buffers besides those before, and the report the events
-pub record Comes (old new : PortsAt) (before after : PlainPile) (earlier later : List Event) (c : Came) : Type 0 where
-  pub ports : new ≡ with_ports_at old c.ports
-  pub trash : after ≡ with_contents before (before.contents ++ c.loose)
-  pub events : later ≡ earlier ++ c.events
+pub record Comes (old new : AtWork) (c : Came) : Type 0 where
+  pub ports : new.ports ≡ with_ports_at old.ports c.ports
+  pub trash : new.trash ≡ with_contents old.trash (old.trash.contents ++ c.loose)
+  pub events : new.report ≡ old.report ++ c.events

@@ -3,6 +3,7 @@ use Rattle.std.specs.Prelude.{◌≡◌, ◌≢◌, ◌<◌, ◌≤◌, ℕ, ◌
 use Rattle.std.specs.List.{All}
 use Rattle.std.specs.Option.{IsSome}
 use Rattle.csp_buffer.specs.Content.{Content}
+use Rattle.csp_base.specs.declared.seat.Seat.{Seat}
 use Rattle.csp_base.specs.declared.limits.TheConstants.{MAX_APPS, SLOTS, ALL_SLOTS}
 use Rattle.csp_deck.specs.Keeping.{numbers_of}
 use Rattle.csp_deck.specs.Step.{times}
@@ -16,18 +17,27 @@ use Rattle.csp_rdp.specs.Jobs.{delivery, job_of}
 use Rattle.csp_rdp.specs.declared.answers.State.TheVariants as state
 use Rattle.csp_rdp.specs.declared.jobs.Job.TheVariants as job
 
--- no buffer is lost or used twice: the ports and the trash have, after it, what they had before, and the buffers of these
+-- a node's ports, and the buffers that are at hand besides
+pub record AtHand : Type 0 where
+  pub ports : PlainPorts
+  pub others : List Content
+
+-- these ports, and these buffers
+abbrev pub at_hand : PlainPorts → List Content → AtHand
+at_hand p others = record { ports = p; others = others }
+
+-- no buffer is lost or used twice: after it there are those that were held or at hand before, and the buffers of these
 -- numbers that came besides; and it counts so much further at most
-pub record Keeps (more : ℕ) (old new : PlainPorts) (before after : List Content) (came : List ℕ) : Type 0 where
-  pub numbers : (k : ℕ) → times k (numbers_of after) + times k (numbers_of (held new)) ≡ times k (numbers_of before) + times k (numbers_of (held old)) + times k came
-  pub size : length after + length (held new) ≡ length before + length (held old) + length came
-  pub far : (n : ℕ) → AreFar n old → AreFar (n + more) new
+pub record Keeps (more : ℕ) (old new : AtHand) (came : List ℕ) : Type 0 where
+  pub numbers : (k : ℕ) → times k (numbers_of new.others) + times k (numbers_of (held new.ports)) ≡ times k (numbers_of old.others) + times k (numbers_of (held old.ports)) + times k came
+  pub size : length new.others + length (held new.ports) ≡ length old.others + length (held old.ports) + length came
+  pub far : (n : ℕ) → AreFar n old.ports → AreFar (n + more) new.ports
 
 -- a task is one that the slot owes: a note; a packet that its connection keeps; or a packet that its connection makes
-abbrev pub IsOwedBy : Task → (time app slot : ℕ) → PlainPorts → Type 0
-IsOwedBy task.Tell time app slot p = ⊤
-IsOwedBy task.Deliver time app slot p = ((machine_at p app slot).state ≡ state.Open) × IsSome (delivery (machine_at p app slot))
-IsOwedBy (task.Make j) time app slot p = (job_of time (machine_at p app slot) ≡ Some j) × (j ≢ job.Deliver)
+abbrev pub IsOwedBy : Task → (time : ℕ) → Seat → PlainPorts → Type 0
+IsOwedBy task.Tell time seat p = ⊤
+IsOwedBy task.Deliver time seat p = ((machine_at p seat).state ≡ state.Open) × IsSome (delivery (machine_at p seat))
+IsOwedBy (task.Make j) time seat p = (job_of time (machine_at p seat) ≡ Some j) × (j ≢ job.Deliver)
 
 -- there are no more applications than may be; each machine of a slot is whole; and each application has a place for
 -- a packet that waits, which is for one of its slots

@@ -4,11 +4,11 @@ use Rattle.std.specs.List.{All}
 use Rattle.std.specs.Option.{option_map}
 use Rattle.std.specs.VecDeque.{deque_capacity}
 use Rattle.csp_arena.specs.Cells.{RegionName}
+use Rattle.csp_base.specs.Seat.{seat}
 use Rattle.csp_base.specs.declared.limits.TheConstants.{MAX_PAYLOAD, MAX_APPS, SLOTS, ALL_SLOTS}
 use Rattle.csp_conn.specs.PlainConns.{place_of}
 use Rattle.csp_deck.specs.Carried.{IsReply}
-use Rattle.csp_ports.specs.PlainPorts.{PlainPorts, PlainStalled, PortsAt, anywhere, terms_of, waiting, with_ports_at}
-use Rattle.csp_ports.specs.Steps.{admitted}
+use Rattle.csp_ports.specs.PlainPorts.{PlainPorts, PlainStalled, PortsAt, anywhere, terms_of, waiting}
 use Rattle.csp_ports.specs.declared.owed.Owed.{Owed}
 use Rattle.csp_ports.specs.declared.ports.Ports.TheInside.{Inside}
 use Rattle.csp_ports.specs.declared.ports.TheConstants.{MAX_OWED, ANSWERS}
@@ -23,7 +23,6 @@ use Rattle.csp_deck.specs.Regions.{nowhere}
 use Rattle.csp_ports.specs.Held.{held}
 use Rattle.csp_rdp.specs.Balance.{IsWhole}
 use Rattle.csp_rdp.specs.Holding.{rdp_numbers, unneeded}
-use Rattle.csp_rdp.specs.Jobs.{admitting}
 use Rattle.csp_rdp_window.specs.declared.receive.TheConstants.{RECEIVE_PLACES}
 use Rattle.csp_rdp_window.specs.declared.send.TheConstants.{SEND_PLACES}
 use Rattle.csp_rdp.specs.Machine.{PlainRdp}
@@ -63,8 +62,8 @@ wished wish.End = 1
 wished _ = 0
 
 -- how many answers are still to come for the slots of an application
-abbrev pub wishes : ℕ → List Terms → ℕ
-wishes app terms = sum_by (λ t. wished t.wish) (take SLOTS (drop (place_of app 0) terms))
+abbrev pub wishes : (app : ℕ) → List Terms → ℕ
+wishes app terms = sum_by (λ t. wished t.wish) (take SLOTS (drop (place_of (seat app 0)) terms))
 
 -- the machine of a slot: its buffers are of the region, it holds none that it does not need, and no more than its windows have places
 pub record IsHoused (name : RegionName) (r : PlainRdp) : Type 0 where
@@ -73,15 +72,10 @@ pub record IsHoused (name : RegionName) (r : PlainRdp) : Type 0 where
   pub rested : unneeded r ≡ []
   pub few : length (rdp_numbers r) ≤ SEND_PLACES + RECEIVE_PLACES
 
--- a buffer is admitted where there is room, and else handed back
-abbrev pub Admits : (room : Bool) → Result Unit PlainBuffer → (old new : PlainRdp) → PlainBuffer → ℕ → Type 0
-Admits true answer old new b time = (answer ≡ Ok tt) × (new ≡ admitting (anywhere b.picture) time old)
-Admits false answer old new b time = (answer ≡ Err b) × (new ≡ old)
-
--- and on a slot's connection
-abbrev pub AdmitsIn : (room : Bool) → Result Unit PlainBuffer → (old new : PortsAt) → (app slot : ℕ) → PlainBuffer → (time : ℕ) → Type 0
-AdmitsIn true answer old new app slot b time = (answer ≡ Ok tt) × (new ≡ with_ports_at old (admitted time app slot (anywhere b.picture) old.ports))
-AdmitsIn false answer old new app slot b time = (answer ≡ Err b) × (new ≡ old)
+-- a buffer is admitted where there is room, and else handed back: then this holds, or that
+abbrev pub Admits : (room : Bool) → Result Unit PlainBuffer → PlainBuffer → (is_admitted is_same : Type 0) → Type 0
+Admits true answer b is_admitted is_same = (answer ≡ Ok tt) × is_admitted
+Admits false answer b is_admitted is_same = (answer ≡ Err b) × is_same
 
 -- the trash is of the same region, and has room for all buffers that the ports hold, and for so many more
 pub record IsRoomy (more : ℕ) (p : PortsAt) (trash : PlainPile) : Type 0 where

@@ -1,6 +1,7 @@
 -- the ports of a node as plain data: its connections, the ports that are bound, and the answers owed to applications
 use Rattle.std.specs.Prelude.{ℕ, ◌+◌, ◌*◌, ◌%◌, ◌==◌, Bool, true, false, Option, None, Some, List, [], ◌∷◌, ◌++◌, map, is_some, unwrap_or, get_or, slice_set, replicate, count_by}
 use Rattle.csp_arena.specs.Cells.{RegionName}
+use Rattle.csp_base.specs.declared.seat.Seat.{Seat}
 use Rattle.csp_base.specs.declared.priority.Prio.{Prio}
 use Rattle.csp_base.specs.declared.priority.Prio.TheVariants.{Normal}
 use Rattle.csp_buffer.specs.Content.{Content}
@@ -83,20 +84,20 @@ waiting app owed = count_by (λ o. o.app == app) owed
 -- ---- slots
 
 -- what is kept of a slot: a slot with a plain connection, and one that is free, has no machine
-abbrev pub state_at : PlainPorts → (app slot : ℕ) → SlotState
-state_at p app slot = get_or p.slots (place_of app slot) untouched
+abbrev pub state_at : PlainPorts → Seat → SlotState
+state_at p seat = get_or p.slots (place_of seat) untouched
 
 -- how a slot's packets are sent, and how far the slot has come
-abbrev pub terms_at : PlainPorts → (app slot : ℕ) → Terms
-terms_at p app slot = (state_at p app slot).terms
+abbrev pub terms_at : PlainPorts → Seat → Terms
+terms_at p seat = (state_at p seat).terms
 
 -- the ports with other terms of a slot
-abbrev pub with_terms : PlainPorts → (app slot : ℕ) → Terms → PlainPorts
-with_terms p app slot terms = record p { slots = slice_set p.slots (place_of app slot) (record (state_at p app slot) { terms = terms }) }
+abbrev pub with_terms : PlainPorts → Seat → Terms → PlainPorts
+with_terms p seat terms = record p { slots = slice_set p.slots (place_of seat) (record (state_at p seat) { terms = terms }) }
 
 -- the application waits for this at the slot
-abbrev pub wishing : PlainPorts → (app slot : ℕ) → Wish → PlainPorts
-wishing p app slot what = with_terms p app slot (record (terms_at p app slot) { wish = what })
+abbrev pub wishing : PlainPorts → Seat → Wish → PlainPorts
+wishing p seat what = with_terms p seat (record (terms_at p seat) { wish = what })
 
 -- the application has asked for the slot's end
 abbrev pub is_closing : Wish → Bool
@@ -105,16 +106,16 @@ is_closing wish.Ended = true
 is_closing _ = false
 
 -- the slot has a machine
-abbrev pub has_machine : PlainPorts → (app slot : ℕ) → Bool
-has_machine p app slot = is_some (state_at p app slot).machine
+abbrev pub has_machine : PlainPorts → Seat → Bool
+has_machine p seat = is_some (state_at p seat).machine
 
 -- its machine; where it has none, one that is idle
 abbrev pub machine_in : SlotState → PlainRdp
 machine_in s = unwrap_or s.machine idle
 
 -- the machine of a slot's reliable connection; where the slot has none it is idle: it is closed, holds nothing and owes nothing
-abbrev pub machine_at : PlainPorts → (app slot : ℕ) → PlainRdp
-machine_at p app slot = machine_in (state_at p app slot)
+abbrev pub machine_at : PlainPorts → Seat → PlainRdp
+machine_at p seat = machine_in (state_at p seat)
 
 -- a reliable connection in this state is open
 abbrev pub is_open : State → Bool
@@ -122,12 +123,12 @@ is_open Open = true
 is_open _ = false
 
 -- the ports with this machine of a slot, or without one
-abbrev pub with_machine_or : PlainPorts → (app slot : ℕ) → Option PlainRdp → PlainPorts
-with_machine_or p app slot machine = record p { slots = slice_set p.slots (place_of app slot) (record (state_at p app slot) { machine = machine }) }
+abbrev pub with_machine_or : PlainPorts → Seat → Option PlainRdp → PlainPorts
+with_machine_or p seat machine = record p { slots = slice_set p.slots (place_of seat) (record (state_at p seat) { machine = machine }) }
 
 -- the ports with another machine of a slot
-abbrev pub with_machine : PlainPorts → (app slot : ℕ) → PlainRdp → PlainPorts
-with_machine p app slot r = with_machine_or p app slot (Some r)
+abbrev pub with_machine : PlainPorts → Seat → PlainRdp → PlainPorts
+with_machine p seat r = with_machine_or p seat (Some r)
 
 -- the terms of all slots
 abbrev pub terms_of : PlainPorts → List Terms
@@ -146,8 +147,8 @@ abbrev pub with_stalled : PlainPorts → (app : ℕ) → Option PlainStalled →
 with_stalled p app what = record p { stalled = slice_set p.stalled app what }
 
 -- a connection begins on a slot: its packets are sent with this priority and these flags, and the application waits for this
-abbrev pub begun : PlainPorts → (app slot : ℕ) → Prio → (flags : ℕ) → Wish → PlainPorts
-begun p app slot prio flags what = with_terms p app slot (record (terms_at p app slot) { prio = prio; flags = flags; wish = what; is_down = false })
+abbrev pub begun : PlainPorts → Seat → Prio → (flags : ℕ) → Wish → PlainPorts
+begun p seat prio flags what = with_terms p seat (record (terms_at p seat) { prio = prio; flags = flags; wish = what; is_down = false })
 
 -- ---- the node's own flows
 

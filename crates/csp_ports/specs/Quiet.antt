@@ -1,14 +1,16 @@
 -- when trying the timers changes nothing
-use Rattle.std.specs.Prelude.{ℕ, ◌*◌, ◌/◌, ◌%◌, ◌&&◌, not, Bool, false, unwrap_or}
+use Rattle.std.specs.Prelude.{ℕ, ◌*◌, ◌&&◌, not, Bool, false, unwrap_or}
 use Rattle.std.specs.List.{list_any, range_with_len}
 use Rattle.std.specs.Option.{option_map}
+use Rattle.csp_base.specs.Seat.{seat}
 use Rattle.csp_base.specs.declared.limits.TheConstants.{SLOTS}
+use Rattle.csp_conn.specs.PlainConns.{seat_of}
 use Rattle.csp_ports.specs.PlainPorts.{PlainPorts, is_open, machine_at, stalled_at}
 use Rattle.csp_rdp.specs.Timer.{times_out}
 
 -- the timer of a slot, by its place, would change its connection
 abbrev pub times_out_at : ℕ → PlainPorts → ℕ → Bool
-times_out_at time p k = times_out time (machine_at p (k / SLOTS) (k % SLOTS))
+times_out_at time p k = times_out time (machine_at p (seat_of k))
 
 -- one of all would
 abbrev pub any_times_out : ℕ → PlainPorts → Bool
@@ -16,7 +18,7 @@ any_times_out time p = list_any (times_out_at time p) (range_with_len 0 (p.conns
 
 -- the packet of an application is stranded: it waits for a connection that is not open
 abbrev pub is_stranded : PlainPorts → ℕ → Bool
-is_stranded p app = unwrap_or (option_map (λ s. not (is_open (machine_at p app s.slot).state)) (stalled_at p app)) false
+is_stranded p app = unwrap_or (option_map (λ s. not (is_open (machine_at p (seat app s.slot)).state)) (stalled_at p app)) false
 
 -- some application's does
 abbrev pub any_stranded : PlainPorts → Bool

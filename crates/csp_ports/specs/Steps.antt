@@ -1,8 +1,10 @@
 -- what follows when the machine of a slot's reliable connection has made a step
-use Rattle.std.specs.Prelude.{ℕ, ◌*◌, ◌/◌, ◌%◌, ◌&&◌, not, Bool, true, false, cond, Option, None, Some, unwrap_or, List, [], ◌∷◌}
+use Rattle.std.specs.Prelude.{ℕ, ◌*◌, ◌&&◌, not, Bool, true, false, cond, Option, None, Some, unwrap_or, List, [], ◌∷◌}
 use Rattle.std.specs.List.{range_with_len}
 use Rattle.std.specs.Option.{option_map}
-use Rattle.csp_conn.specs.PlainConns.{with_slot}
+use Rattle.csp_base.specs.Seat.{seat}
+use Rattle.csp_base.specs.declared.seat.Seat.{Seat}
+use Rattle.csp_conn.specs.PlainConns.{seat_of, with_slot}
 use Rattle.csp_base.specs.declared.limits.TheConstants.{SLOTS}
 use Rattle.csp_conn.specs.declared.slot.Slot.TheVariants.{Free}
 use Rattle.csp_log.specs.declared.event.Discard.TheVariants as why
@@ -32,28 +34,28 @@ where_machine true step p = step p
 where_machine false step p = come p
 
 -- the machine is then this: what it does not need any more is let go
-abbrev pub stepped : (app slot : ℕ) → PlainRdp → PlainPorts → Came
-stepped app slot r p = record { ports = with_machine p app slot (rested r); loose = pictures (unneeded r); events = [] }
+abbrev pub stepped : Seat → PlainRdp → PlainPorts → Came
+stepped seat r p = record { ports = with_machine p seat (rested r); loose = pictures (unneeded r); events = [] }
 
 -- another machine takes its place, or none; what the one before still held is let go
-abbrev pub replaced : (app slot : ℕ) → Option PlainRdp → PlainPorts → Came
-replaced app slot machine p = record { ports = with_machine_or p app slot machine; loose = pictures (rdp_buffers (machine_at p app slot)); events = [] }
+abbrev pub replaced : Seat → Option PlainRdp → PlainPorts → Came
+replaced seat machine p = record { ports = with_machine_or p seat machine; loose = pictures (rdp_buffers (machine_at p seat)); events = [] }
 
 -- the slot is free, has no reliable connection, owes nothing any more, and its next connection is of this ordinal:
 -- by the answer to a close the next in order, and else the same, since this one never was open
-abbrev pub freed : (ordinal app slot : ℕ) → PlainPorts → Came
-freed ordinal app slot p =
-    replaced app slot None
-    (with_terms (record p { conns = with_slot p.conns app slot Free }) app slot (record (terms_at p app slot) { wish = wish.Nothing; is_down = false; ordinal = ordinal }))
+abbrev pub freed : (ordinal : ℕ) → Seat → PlainPorts → Came
+freed ordinal seat p =
+    replaced seat None
+    (with_terms (record p { conns = with_slot p.conns seat Free }) seat (record (terms_at p seat) { wish = wish.Nothing; is_down = false; ordinal = ordinal }))
 
 -- the application that waited for its connection is told that it is open
-abbrev pub connected_by : Wish → (app slot : ℕ) → PlainPorts → PlainPorts
-connected_by wish.Connection app slot p = owing (wishing p app slot wish.Nothing) app (note.Connected slot)
-connected_by _ app slot p = p
+abbrev pub connected_by : Wish → Seat → PlainPorts → PlainPorts
+connected_by wish.Connection seat p = owing (wishing p seat wish.Nothing) seat.app (note.Connected seat.slot)
+connected_by _ seat p = p
 
 -- a slot's connection is open: the application that waits for it is owed its answer
-abbrev pub connected : (app slot : ℕ) → PlainPorts → PlainPorts
-connected app slot p = connected_by (terms_at p app slot).wish app slot p
+abbrev pub connected : Seat → PlainPorts → PlainPorts
+connected seat p = connected_by (terms_at p seat).wish seat p
 
 -- why a connection that was asked for is refused, as an answer says it
 abbrev pub reason_of : MachineWhy → Why
@@ -61,50 +63,50 @@ reason_of machine_why.Timeout = reason.Timeout
 reason_of machine_why.Reset = reason.Reset
 
 -- a connection that was asked for is refused: its slot is free, and the application that waited is told so
-abbrev pub refused_by : Wish → MachineWhy → (app slot : ℕ) → PlainPorts → Came
-refused_by wish.Connection why app slot p = then (freed (terms_at p app slot).ordinal app slot p) (λ p. come (owing p app (note.Refused (reason_of why))))
+abbrev pub refused_by : Wish → MachineWhy → Seat → PlainPorts → Came
+refused_by wish.Connection why seat p = then (freed (terms_at p seat).ordinal seat p) (λ p. come (owing p seat.app (note.Refused (reason_of why))))
 -- the others never come: only an opening that an application asked for and waits for is refused
-refused_by _ why app slot p = freed (terms_at p app slot).ordinal app slot p
+refused_by _ why seat p = freed (terms_at p seat).ordinal seat p
 
 -- a slot's connection is refused: the application that waits is owed the reason, and the slot is free
-abbrev pub refused : MachineWhy → (app slot : ℕ) → PlainPorts → Came
-refused why app slot p = refused_by (terms_at p app slot).wish why app slot p
+abbrev pub refused : MachineWhy → Seat → PlainPorts → Came
+refused why seat p = refused_by (terms_at p seat).wish why seat p
 
 -- a Down note is owed
-abbrev pub down : (app slot : ℕ) → PlainPorts → PlainPorts
-down app slot p = with_terms p app slot (record (terms_at p app slot) { is_down = true })
+abbrev pub down : Seat → PlainPorts → PlainPorts
+down seat p = with_terms p seat (record (terms_at p seat) { is_down = true })
 
 -- the application that asked for the end of a slot's connection is owed that it is closed
-abbrev pub ended : (app slot : ℕ) → PlainPorts → PlainPorts
-ended app slot p = owing (wishing p app slot wish.Ended) app (note.Closed slot)
+abbrev pub ended : Seat → PlainPorts → PlainPorts
+ended seat p = owing (wishing p seat wish.Ended) seat.app (note.Closed seat.slot)
 
 -- the connection is closed: the application that asked for that is told so; else a slot whose connection was open stays in
 -- use, and that of one that never was is free
-abbrev pub closed_by : Wish → (was_open : Bool) → (app slot : ℕ) → PlainPorts → Came
-closed_by wish.End was_open app slot p = come (ended app slot p)
-closed_by wish.Nothing true app slot p = come p
-closed_by wish.Nothing false app slot p = freed (terms_at p app slot).ordinal app slot p
+abbrev pub closed_by : Wish → (was_open : Bool) → Seat → PlainPorts → Came
+closed_by wish.End was_open seat p = come (ended seat p)
+closed_by wish.Nothing true seat p = come p
+closed_by wish.Nothing false seat p = freed (terms_at p seat).ordinal seat p
 -- the other two never come: what ends while its opening is waited for is refused, and what was told closed is not closed again
-closed_by _ was_open app slot p = come p
+closed_by _ was_open seat p = come p
 
 -- a slot's connection is closed: what the application is owed, and whether the slot is free
-abbrev pub closed : (app slot : ℕ) → PlainPorts → Came
-closed app slot p = closed_by (terms_at p app slot).wish (machine_at p app slot).was_open app slot p
+abbrev pub closed : Seat → PlainPorts → Came
+closed seat p = closed_by (terms_at p seat).wish (machine_at p seat).was_open seat p
 
 -- what a change of the connection comes to, which its application did not ask for: an opening is reported; a refusal frees
 -- the slot; a connection that is not open any more owes a Down note
-abbrev pub changed : Change → (app slot : ℕ) → PlainPorts → Came
-changed change.None app slot p = come p
-changed change.Opened app slot p =
-    let r = machine_at p app slot in
-    reporting (event.Opened app slot (Some r.nth) r.peer) (come (connected app slot p))
-changed (change.Refused why) app slot p = refused why app slot p
-changed change.Down app slot p = come (down app slot p)
-changed change.Closed app slot p = closed app slot p
+abbrev pub changed : Change → Seat → PlainPorts → Came
+changed change.None seat p = come p
+changed change.Opened seat p =
+    let r = machine_at p seat in
+    reporting (event.Opened seat.app seat.slot (Some r.nth) r.peer) (come (connected seat p))
+changed (change.Refused why) seat p = refused why seat p
+changed change.Down seat p = come (down seat p)
+changed change.Closed seat p = closed seat p
 
 -- a step from a state to a machine, and what it changed
-abbrev pub went : State → MachineWhy → (app slot : ℕ) → PlainRdp → PlainPorts → Came
-went before why app slot r p = then (stepped app slot r p) (changed (change_between before r.state why) app slot)
+abbrev pub went : State → MachineWhy → Seat → PlainRdp → PlainPorts → Came
+went before why seat r p = then (stepped seat r p) (changed (change_between before r.state why) seat)
 
 -- ---- the packet that waits for room
 
@@ -113,31 +115,31 @@ abbrev pub has_room : PlainRdp → Bool
 has_room r = is_open r.state && not (is_full r.send)
 
 -- a packet is admitted to the window of a slot's connection
-abbrev pub admitted : (time app slot : ℕ) → PlainBuffer → PlainPorts → PlainPorts
-admitted time app slot b p = with_machine p app slot (admitting b time (machine_at p app slot))
+abbrev pub admitted : (time : ℕ) → Seat → PlainBuffer → PlainPorts → PlainPorts
+admitted time seat b p = with_machine p seat (admitting b time (machine_at p seat))
 
 -- an application's waiting packet is admitted where there is room now
 abbrev pub settled : (time app : ℕ) → PlainPorts → PlainPorts
 settled time app p =
-    unwrap_or (option_map (λ s. cond (has_room (machine_at p app s.slot)) (admitted time app s.slot s.buffer (with_stalled p app None)) p) (stalled_at p app)) p
+    unwrap_or (option_map (λ s. cond (has_room (machine_at p (seat app s.slot))) (admitted time (seat app s.slot) s.buffer (with_stalled p app None)) p) (stalled_at p app)) p
 
 -- an application's waiting packet is discarded as NoConn where its connection is not open any more
 abbrev pub dropped : (app : ℕ) → PlainPorts → Came
 dropped app p =
-    unwrap_or (option_map (λ s. cond (is_open (machine_at p app s.slot).state) (come p) (discarding why.NoConn s.buffer.picture (with_stalled p app None))) (stalled_at p app)) (come p)
+    unwrap_or (option_map (λ s. cond (is_open (machine_at p (seat app s.slot)).state) (come p) (discarding why.NoConn s.buffer.picture (with_stalled p app None))) (stalled_at p app)) (come p)
 
 -- ---- the timers
 
 -- the timer of a slot is tried
-abbrev pub timed_at : (time app slot : ℕ) → PlainPorts → Came
-timed_at time app slot p =
-    let r = machine_at p app slot in
-    where_machine (has_machine p app slot) (went r.state machine_why.Timeout app slot (ticked time r)) p
+abbrev pub timed_at : (time : ℕ) → Seat → PlainPorts → Came
+timed_at time seat p =
+    let r = machine_at p seat in
+    where_machine (has_machine p seat) (went r.state machine_why.Timeout seat (ticked time r)) p
 
 -- and those of several, by their places
 abbrev pub timed_in : (time : ℕ) → List ℕ → PlainPorts → Came
 timed_in time [] p = come p
-timed_in time (k ∷ ks) p = then (timed_at time (k / SLOTS) (k % SLOTS) p) (timed_in time ks)
+timed_in time (k ∷ ks) p = then (timed_at time (seat_of k) p) (timed_in time ks)
 
 -- the packets of several applications that wait for a connection which is not open any more are discarded
 abbrev pub dropped_of : List ℕ → PlainPorts → Came

@@ -1,9 +1,10 @@
 -- what the reliable connections of a node owe, and in which order they come to it
-use Rattle.std.specs.Prelude.{ℕ, ◌+◌, ◌-◌, ◌*◌, ◌/◌, ◌%◌, ◌==◌, ◌&&◌, nat_lt, Bool, true, false, cond, Option, None, Some, List, ◌++◌, find, is_some}
+use Rattle.std.specs.Prelude.{ℕ, ◌+◌, ◌-◌, ◌*◌, ◌==◌, ◌&&◌, nat_lt, Bool, true, false, cond, Option, None, Some, List, ◌++◌, find, is_some}
 use Rattle.std.specs.List.{range_with_len}
 use Rattle.std.specs.Option.{option_map}
 use Rattle.csp_buffer.specs.Content.{Content}
-use Rattle.csp_conn.specs.PlainConns.{place_of}
+use Rattle.csp_base.specs.declared.seat.Seat.{Seat}
+use Rattle.csp_conn.specs.PlainConns.{place_of, seat_of}
 use Rattle.csp_base.specs.declared.limits.TheConstants.{SLOTS}
 use Rattle.csp_ports.specs.Came.{Came, then}
 use Rattle.csp_ports.specs.PlainPorts.{PlainPorts, anywhere, machine_at, terms_at, with_machine, with_terms}
@@ -29,12 +30,12 @@ task_by false (Some job.Ack) = Some (task.Make job.Ack)
 task_by false None = None
 
 -- the first task of a slot
-abbrev pub task_at : (time : ℕ) → PlainPorts → (app slot : ℕ) → Option Task
-task_at time p app slot = task_by (terms_at p app slot).is_down (job_of time (machine_at p app slot))
+abbrev pub task_at : (time : ℕ) → PlainPorts → Seat → Option Task
+task_at time p seat = task_by (terms_at p seat).is_down (job_of time (machine_at p seat))
 
 -- that of the slot at a place
 abbrev pub task_of : ℕ → PlainPorts → ℕ → Option Task
-task_of time p k = task_at time p (k / SLOTS) (k % SLOTS)
+task_of time p k = task_at time p (seat_of k)
 
 -- whether that slot is there and has one
 abbrev pub has_task : ℕ → PlainPorts → ℕ → Bool
@@ -48,13 +49,13 @@ circle p = range_with_len p.next (p.conns.apps * SLOTS - p.next) ++ range_with_l
 abbrev pub place_with_task : ℕ → PlainPorts → Option ℕ
 place_with_task time p = find (has_task time p) (circle p)
 
--- that slot, and its task
-abbrev pub task_with : ℕ → PlainPorts → Option ℕ → Option (ℕ × ℕ × Task)
+-- that seat, and its task
+abbrev pub task_with : ℕ → PlainPorts → Option ℕ → Option (Seat × Task)
 task_with time p None = None
-task_with time p (Some k) = option_map (λ t. (k / SLOTS, k % SLOTS, t)) (task_of time p k)
+task_with time p (Some k) = option_map (λ t. (seat_of k, t)) (task_of time p k)
 
--- the first slot with a task in the circle, and its task
-abbrev pub next_task : ℕ → PlainPorts → Option (ℕ × ℕ × Task)
+-- the first seat with a task in the circle, and its task
+abbrev pub next_task : ℕ → PlainPorts → Option (Seat × Task)
 next_task time p = task_with time p (place_with_task time p)
 
 -- ---- what comes of a task
@@ -64,31 +65,31 @@ abbrev pub past : ℕ → PlainPorts → ℕ
 past k p = cond (k + 1 == p.conns.apps * SLOTS) 0 (k + 1)
 
 -- a slot comes to its task
-abbrev pub turned : (app slot : ℕ) → PlainPorts → PlainPorts
-turned app slot p = record p { next = past (place_of app slot) p }
+abbrev pub turned : Seat → PlainPorts → PlainPorts
+turned seat p = record p { next = past (place_of seat) p }
 
 -- the Down note is pushed
-abbrev pub told_down : (app slot : ℕ) → PlainPorts → PlainPorts
-told_down app slot p = with_terms p app slot (record (terms_at p app slot) { is_down = false })
+abbrev pub told_down : Seat → PlainPorts → PlainPorts
+told_down seat p = with_terms p seat (record (terms_at p seat) { is_down = false })
 
 -- the packet that is to be delivered is taken out
-abbrev pub without_packet : (app slot : ℕ) → PlainPorts → PlainPorts
-without_packet app slot p = with_machine p app slot (without_delivery (machine_at p app slot))
+abbrev pub without_packet : Seat → PlainPorts → PlainPorts
+without_packet seat p = with_machine p seat (without_delivery (machine_at p seat))
 
 -- what comes of it that a slot's packet was delivered
-abbrev pub delivered : (time app slot : ℕ) → PlainPorts → Came
-delivered time app slot p =
-    let r = machine_at p app slot in
-    then (went r.state machine_why.Reset app slot (delivering time r) p) (dropped app)
+abbrev pub delivered : (time : ℕ) → Seat → PlainPorts → Came
+delivered time seat p =
+    let r = machine_at p seat in
+    then (went r.state machine_why.Reset seat (delivering time r) p) (dropped seat.app)
 
 -- a slot's packet, whose lane had no room, is kept again
-abbrev pub kept_again : (app slot : ℕ) → Content → PlainPorts → PlainPorts
-kept_again app slot b p = with_machine p app slot (keeping_again (anywhere b) (machine_at p app slot))
+abbrev pub kept_again : Seat → Content → PlainPorts → PlainPorts
+kept_again seat b p = with_machine p seat (keeping_again (anywhere b) (machine_at p seat))
 
--- a packet is made in a buffer, and the machine notes that it is sent
-abbrev pub made_in : Job → (time app slot : ℕ) → Content → PlainPorts → Content
-made_in j time app slot b p = (filled j time (machine_at p app slot) (anywhere b)).picture
+-- the packet that a slot's machine makes in a buffer
+abbrev pub made_in : Job → (time : ℕ) → Seat → Content → PlainPorts → Content
+made_in j time seat b p = (filled j time (machine_at p seat) (anywhere b)).picture
 
 -- the ports once a slot's machine has made what it owed
-abbrev pub making : Job → (time app slot : ℕ) → PlainPorts → PlainPorts
-making j time app slot p = with_machine p app slot (sent j time (machine_at p app slot))
+abbrev pub making : Job → (time : ℕ) → Seat → PlainPorts → PlainPorts
+making j time seat p = with_machine p seat (sent j time (machine_at p seat))

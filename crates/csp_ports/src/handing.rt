@@ -3,7 +3,7 @@
 
 ghost use Rattle.std.specs.Prelude.{◌≡◌, ◌-◌, ◌+◌, ◌^◌, ◌<◌, ◌≤◌, ℕ, [], ◌∷◌, ◌++◌, length, None, Some, IfSome, MatchOption};
 ghost use Rattle.std.specs.Option.{option_to_list};
-ghost use Rattle.csp_conn.specs.Opening.{first_free};
+ghost use Rattle.csp_conn.specs.Opening.{free_seat};
 ghost use Rattle.csp_conn.specs.PlainConns.{IsThere};
 ghost use Rattle.csp_log.specs.declared.event.Discard.TheVariants as discard;
 ghost use Rattle.csp_log.specs.declared.event.Event.TheVariants as event;
@@ -11,10 +11,10 @@ ghost use Rattle.csp_log.specs.declared.event.TheConstants.{MAX_EVENTS};
 ghost use Rattle.csp_deck.specs.Keeping.{with_contents};
 ghost use Rattle.csp_deck.specs.Regions.{nowhere};
 ghost use Rattle.csp_rdp.specs.Placed.{placed};
-ghost use Rattle.csp_ports.specs.Came.{Comes, pictures};
+ghost use Rattle.csp_ports.specs.Came.{Comes, at_work, pictures};
 ghost use Rattle.csp_ports.specs.Counts.{AreFar, IsCountable};
 ghost use Rattle.csp_ports.specs.Held.{held};
-ghost use Rattle.csp_ports.specs.Keeps.{Keeps};
+ghost use Rattle.csp_ports.specs.Keeps.{Keeps, at_hand};
 ghost use Rattle.csp_ports.specs.Kept.{IsHoused, IsRoomy, wished, wishes};
 ghost use Rattle.csp_ports.specs.declared.ports.TheConstants.{ANSWERS};
 ghost use Rattle.csp_rdp.specs.Changes.{change_between};
@@ -27,11 +27,11 @@ ghost use Rattle.csp_ports.specs.Packets.{accepted, admitting_by, handing, handi
 ghost use Rattle.csp_ports.specs.PlainPorts.{anywhere, begun, has_machine, machine_at, start_of, stalled_at, terms_at, terms_of, waiting, with_ports_at};
 ghost use Rattle.csp_ports.specs.Steps.{has_room, stepped, where_machine};
 
-use crate::origin::Origin;
+use crate::flows::OwnFlows;
 use crate::ports::Ports;
 use crate::steps::let_go;
 use crate::terms::Wish;
-use csp_base::{MAX_PAYLOAD, Prio, SLOTS, Seq, Tag};
+use csp_base::{MAX_PAYLOAD, Prio, Seat, Seq, Tag};
 use csp_buffer::Buffer;
 use csp_conn::{Connection, place};
 use csp_deck::{Discard, Event, Events, Pile};
@@ -55,23 +55,18 @@ pub struct Invitation {
 impl Ports {
     /// Opens a plain connection by a packet, in the least free slot of an application. `None` where all are
     /// in use.
-    pub fn accept(&mut self, app: u8, connection: Connection, prio: Prio, flags: u8) -> Option<u8>
+    pub fn accept(&mut self, app: u8, connection: Connection, prio: Prio, flags: u8) -> Option<Seat>
         requires { app < self.old.ports.conns.apps }
-        ensures slot { result ≡ first_free self.old.ports.conns app }
-        ensures ports { MatchOption result (self.new ≡ self.old) (λ slot. self.new ≡ with_ports_at self.old (accepted self.old.ports app slot connection prio flags)) }
-        ensures there { IfSome result (λ slot. slot < SLOTS) }
+        ensures seat { result ≡ free_seat self.old.ports.conns app }
+        ensures ports { MatchOption result (self.new ≡ self.old) (λ seat. self.new ≡ with_ports_at self.old (accepted self.old.ports seat connection prio flags)) }
+        ensures there { IfSome result (λ seat. IsThere self.old.ports.conns seat) }
         ensures apps { self.new.ports.conns.apps ≡ self.old.ports.conns.apps }
-        ensures keeps { Keeps 0 self.old.ports self.new.ports [] [] [] }
+        ensures keeps { Keeps 0 (at_hand self.old.ports []) (at_hand self.new.ports []) [] }
     {
-        let Connection {
-            peer,
-            peer_port,
-            own_port,
-        } = connection;
-        match self.conns.incoming(app, peer, peer_port, own_port) {
-            Ok(slot) => {
-                self.begin(app, slot, prio, flags, Wish::Nothing);
-                Some(slot)
+        match self.conns.incoming(app, connection) {
+            Ok(seat) => {
+                self.begin(seat, prio, flags, Wish::Nothing);
+                Some(seat)
             }
             Err(_) => None,
         }
@@ -81,7 +76,7 @@ impl Ports {
     /// `None` where all are in use.
     pub fn invite(
         &mut self,
-        origin: Origin,
+        flows: OwnFlows,
         app: u8,
         connection: Connection,
         prio: Prio,
@@ -89,84 +84,82 @@ impl Ports {
         invitation: Invitation,
         now: u64,
         trash: &mut Pile,
-    ) -> Option<u8>
+    ) -> Option<Seat>
         requires app { app < self.old.ports.conns.apps }
         requires countable { IsCountable self.old.ports }
         requires roomy { IsRoomy 0 self.old trash.old }
         requires low { 1 ≤ invitation.options.window }
         requires high { invitation.options.window ≤ MAX_WINDOW }
-        ensures slot { result ≡ first_free self.old.ports.conns app }
-        ensures comes { MatchOption result ((self.new ≡ self.old) × (trash.new ≡ trash.old)) (λ slot. Comes self.old self.new trash.old trash.new [] [] (invited origin self.old.ports app slot connection prio flags invitation now)) }
+        ensures seat { result ≡ free_seat self.old.ports.conns app }
+        ensures comes { MatchOption result ((self.new ≡ self.old) × (trash.new ≡ trash.old)) (λ seat. Comes (at_work self.old trash.old []) (at_work self.new trash.new []) (invited flows invitation seat now (accepted self.old.ports seat connection prio flags))) }
         ensures apps { self.new.ports.conns.apps ≡ self.old.ports.conns.apps }
-        ensures keeps { Keeps 1 self.old.ports self.new.ports trash.old.contents trash.new.contents [] }
+        ensures keeps { Keeps 1 (at_hand self.old.ports trash.old.contents) (at_hand self.new.ports trash.new.contents) [] }
     {
         keeps_region();
         keeps_rest();
         keeps_whole();
         self.whole();
-        let slot = self.accept(app, connection, prio, flags)?;
+        let seat = self.accept(app, connection, prio, flags)?;
         let Invitation { head, tag, options } = invitation;
         let nth = self.made;
-        let start = start_of(origin.seed, nth);
-        let machine = Rdp::accept(start, options, head, tag, origin.node, nth, now);
+        let start = start_of(flows.seed, nth);
+        let machine = Rdp::accept(start, options, head, tag, flows.node, nth, now);
         self.made += 1;
-        self.replace(app, slot, Some(machine), trash);
-        Some(slot)
+        self.replace(seat, Some(machine), trash);
+        Some(seat)
     }
 
     /// Hands a packet with this head, which was cut off, to the machine of a slot.
     pub fn hand(
         &mut self,
-        app: u8,
-        slot: u8,
+        seat: Seat,
         head: RdpHead,
         packet: Buffer,
         now: u64,
         trash: &mut Pile,
         report: &mut Events,
     )
-        requires there { IsThere self.old.ports.conns app slot }
+        requires there { IsThere self.old.ports.conns seat }
         requires of_it { packet.region ≡ self.old.region }
         requires roomy { IsRoomy 1 self.old trash.old }
         requires countable { IsCountable self.old.ports }
         requires report { report.old.items ≡ [] }
-        ensures comes { Comes self.old self.new trash.old trash.new report.old.items report.new.items (handing self.old.ports app slot head packet.picture now) }
+        ensures comes { Comes (at_work self.old trash.old report.old.items) (at_work self.new trash.new report.new.items) (handing self.old.ports seat head packet.picture now) }
         ensures apps { self.new.ports.conns.apps ≡ self.old.ports.conns.apps }
-        ensures keeps { Keeps 1 self.old.ports self.new.ports trash.old.contents trash.new.contents (packet.picture.number ∷ []) }
+        ensures keeps { Keeps 1 (at_hand self.old.ports trash.old.contents) (at_hand self.new.ports trash.new.contents) (packet.picture.number ∷ []) }
     {
         self.whole();
-        let change = self.hand_machine(app, slot, head, packet, now, trash, report);
-        self.change(change, app, slot, trash, report);
-        self.drop_stalled(app, trash, report);
-        self.settle(app, now);
+        let change = self.hand_machine(seat, head, packet, now, trash, report);
+        self.change(change, seat, trash, report);
+        self.drop_stalled(seat.app, trash, report);
+        self.settle(seat.app, now);
     }
 
     /// The machine of a slot is handed a packet. What it hands back joins the trash before what it does not
     /// need any more.
     fn hand_machine(
         &mut self,
-        app: u8,
-        slot: u8,
+        seat: Seat,
         head: RdpHead,
         packet: Buffer,
         now: u64,
         trash: &mut Pile,
         report: &mut Events,
     ) -> Change
-        requires there { IsThere self.old.ports.conns app slot }
+        requires there { IsThere self.old.ports.conns seat }
         requires of_it { packet.region ≡ self.old.region }
         requires roomy { IsRoomy 1 self.old trash.old }
         requires countable { IsCountable self.old.ports }
         requires report { report.old.items ≡ [] }
-        ensures comes { Comes self.old self.new (with_contents trash.old (trash.old.contents ++ pictures (option_to_list (back_of (row_of (machine_at self.old.ports app slot) head packet.picture.payload) (anywhere packet.picture))))) trash.new [] [] (where_machine (has_machine self.old.ports app slot) (stepped app slot (after_packet head packet.picture.trace.tag (anywhere packet.picture) now (machine_at self.old.ports app slot))) self.old.ports) }
-        ensures report { report.new.items ≡ handing_event (machine_at self.old.ports app slot) packet.picture.trace.tag ∷ stray_events (back_of (row_of (machine_at self.old.ports app slot) head packet.picture.payload) (anywhere packet.picture)) (is_stray (row_of (machine_at self.old.ports app slot) head packet.picture.payload)) }
+        ensures comes { Comes (at_work self.old (with_contents trash.old (trash.old.contents ++ pictures (option_to_list (back_of (row_of (machine_at self.old.ports seat) head packet.picture.payload) (anywhere packet.picture))))) []) (at_work self.new trash.new []) (where_machine (has_machine self.old.ports seat) (stepped seat (after_packet head packet.picture.trace.tag (anywhere packet.picture) now (machine_at self.old.ports seat))) self.old.ports) }
+        ensures report { report.new.items ≡ handing_event (machine_at self.old.ports seat) packet.picture.trace.tag ∷ stray_events (back_of (row_of (machine_at self.old.ports seat) head packet.picture.payload) (anywhere packet.picture)) (is_stray (row_of (machine_at self.old.ports seat) head packet.picture.payload)) }
         ensures few { length report.new.items ≤ 2 }
-        ensures change { result ≡ change_between (machine_at self.old.ports app slot).state (after_packet head packet.picture.trace.tag (anywhere packet.picture) now (machine_at self.old.ports app slot)).state machine_why.Reset }
+        ensures change { result ≡ change_between (machine_at self.old.ports seat).state (after_packet head packet.picture.trace.tag (anywhere packet.picture) now (machine_at self.old.ports seat)).state machine_why.Reset }
         ensures roomy { IsRoomy 0 self.new trash.new }
         ensures countable { IsCountable self.new.ports }
     {
         keeps_count();
-        let Some(machine) = &mut self.slots[place(app, slot)].machine else {
+        let Some(machine) = &mut self.slots[place(seat)].machine else {
             hand_nobody(packet, trash, report);
             return Change::None;
         };
@@ -177,27 +170,26 @@ impl Ports {
     /// connection is not open it is discarded.
     pub fn submit(
         &mut self,
-        app: u8,
-        slot: u8,
+        seat: Seat,
         packet: Buffer,
         now: u64,
         trash: &mut Pile,
         report: &mut Events,
     )
-        requires there { IsThere self.old.ports.conns app slot }
+        requires there { IsThere self.old.ports.conns seat }
         requires of_it { packet.region ≡ self.old.region }
         requires short { length packet.picture.payload ≤ MAX_PAYLOAD - 9 }
-        requires first { stalled_at self.old.ports app ≡ None }
+        requires first { stalled_at self.old.ports seat.app ≡ None }
         requires roomy { IsRoomy 1 self.old trash.old }
         requires countable { IsCountable self.old.ports }
         requires report { report.old.items ≡ [] }
-        ensures comes { Comes self.old self.new trash.old trash.new report.old.items report.new.items (submitting self.old.ports app slot packet.picture now) }
+        ensures comes { Comes (at_work self.old trash.old report.old.items) (at_work self.new trash.new report.new.items) (submitting self.old.ports seat packet.picture now) }
         ensures apps { self.new.ports.conns.apps ≡ self.old.ports.conns.apps }
-        ensures keeps { Keeps 1 self.old.ports self.new.ports trash.old.contents trash.new.contents (packet.picture.number ∷ []) }
+        ensures keeps { Keeps 1 (at_hand self.old.ports trash.old.contents) (at_hand self.new.ports trash.new.contents) (packet.picture.number ∷ []) }
     {
         self.whole();
-        match self.state(app, slot) {
-            State::Open => self.send(app, slot, packet, now, report),
+        match self.state(seat) {
+            State::Open => self.send(seat, packet, now, report),
             State::SynSent | State::SynRcvd | State::CloseWait | State::Closed => {
                 report.push(Event::Discarded(Discard::NoConn));
                 trash.add(packet);
@@ -206,37 +198,37 @@ impl Ports {
     }
 
     /// A packet of an application goes on the slot's open connection, or waits for room there.
-    fn send(&mut self, app: u8, slot: u8, packet: Buffer, now: u64, report: &mut Events)
-        requires there { IsThere self.old.ports.conns app slot }
+    fn send(&mut self, seat: Seat, packet: Buffer, now: u64, report: &mut Events)
+        requires there { IsThere self.old.ports.conns seat }
         requires of_it { packet.region ≡ self.old.region }
         requires short { length packet.picture.payload ≤ MAX_PAYLOAD - 9 }
-        requires first { stalled_at self.old.ports app ≡ None }
+        requires first { stalled_at self.old.ports seat.app ≡ None }
         requires countable { IsCountable self.old.ports }
         requires report { report.old.items ≡ [] }
-        ensures ports { self.new ≡ with_ports_at self.old (admitting_by (has_room (machine_at self.old.ports app slot)) self.old.ports app slot packet.picture now) }
-        ensures report { report.new.items ≡ event.Sent slot (terms_at self.old.ports app slot).ordinal ∷ [] }
+        ensures ports { self.new ≡ with_ports_at self.old (admitting_by (has_room (machine_at self.old.ports seat)) self.old.ports seat packet.picture now) }
+        ensures report { report.new.items ≡ event.Sent seat.slot (terms_at self.old.ports seat).ordinal ∷ [] }
     {
-        let ordinal = self.terms(app, slot).ordinal;
+        let (slot, ordinal) = (seat.slot, self.terms(seat).ordinal);
         report.push(Event::Sent { slot, ordinal });
-        if let Err(buffer) = self.admit(app, slot, packet, now) {
-            self.stall(app, slot, buffer);
+        if let Err(buffer) = self.admit(seat, packet, now) {
+            self.stall(seat, buffer);
         }
     }
 
     /// A connection begins on a slot whose application waits for nothing there.
-    pub(crate) fn begin(&mut self, app: u8, slot: u8, prio: Prio, flags: u8, wish: Wish)
-        requires there { IsThere self.old.ports.conns app slot }
-        requires due { (waiting app self.old.ports.owed + wishes app (terms_of self.old.ports)) + wished wish ≤ ANSWERS + wished (terms_at self.old.ports app slot).wish }
-        ensures ports { self.new ≡ with_ports_at self.old (begun self.old.ports app slot prio flags wish) }
+    pub(crate) fn begin(&mut self, seat: Seat, prio: Prio, flags: u8, wish: Wish)
+        requires there { IsThere self.old.ports.conns seat }
+        requires due { (waiting seat.app self.old.ports.owed + wishes seat.app (terms_of self.old.ports)) + wished wish ≤ ANSWERS + wished (terms_at self.old.ports seat).wish }
+        ensures ports { self.new ≡ with_ports_at self.old (begun self.old.ports seat prio flags wish) }
         ensures held { held self.new.ports ≡ held self.old.ports }
         ensures far { (n : ℕ) → AreFar n self.old.ports → AreFar n self.new.ports }
     {
-        let mut terms = self.terms(app, slot);
+        let mut terms = self.terms(seat);
         terms.prio = prio;
         terms.flags = flags;
         terms.wish = wish;
         terms.is_down = false;
-        self.set_terms(app, slot, terms);
+        self.set_terms(seat, terms);
     }
 }
 

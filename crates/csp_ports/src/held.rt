@@ -5,7 +5,7 @@ ghost use Rattle.std.specs.List.{flat_map};
 ghost use Rattle.csp_deck.specs.Keeping.{numbers_of};
 ghost use Rattle.csp_deck.specs.Step.{times};
 ghost use Rattle.csp_ports.specs.Held.{emptied, held, slot_buffers, stalled_buffers, without_held};
-ghost use Rattle.csp_ports.specs.Keeps.{Keeps};
+ghost use Rattle.csp_ports.specs.Keeps.{Keeps, at_hand};
 ghost use Rattle.csp_ports.specs.Kept.{stalled_of};
 ghost use Rattle.csp_ports.specs.PlainPorts.{with_ports_at};
 ghost use Rattle.csp_rdp_window.specs.Places.{held_in, without_held as without_first};
@@ -46,7 +46,7 @@ impl Ports {
         ensures ports { self.new ≡ with_ports_at self.old (emptied self.old.ports) }
         ensures of_it { IfSome result (λ b. b.region ≡ self.old.region) }
         ensures apps { self.new.ports.conns.apps ≡ self.old.ports.conns.apps }
-        ensures keeps { MatchOption result (Keeps 0 self.old.ports self.new.ports [] [] []) (λ b. Keeps 0 self.old.ports self.new.ports [] (b.picture ∷ []) []) }
+        ensures keeps { MatchOption result (Keeps 0 (at_hand self.old.ports []) (at_hand self.new.ports []) []) (λ b. Keeps 0 (at_hand self.old.ports []) (at_hand self.new.ports (b.picture ∷ [])) []) }
     {
         match take_stalled(&mut self.stalled) {
             Some(buffer) => Some(buffer),

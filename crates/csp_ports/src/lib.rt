@@ -3,10 +3,10 @@
 #![tactic(auto)]
 
 mod asking;
+mod flows;
 mod handing;
 mod held;
 mod laws;
-mod origin;
 mod owed;
 mod ports;
 mod request;
@@ -17,10 +17,10 @@ mod tasks;
 mod terms;
 mod timers;
 
+pub use flows::OwnFlows;
 pub use handing::Invitation;
 pub use held::MAX_HELD;
 pub use laws::counts;
-pub use origin::Origin;
 pub use owed::Owed;
 pub use ports::Ports;
 pub use request::Request;

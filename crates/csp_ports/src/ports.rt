@@ -6,7 +6,6 @@ ghost use Rattle.std.specs.Option.{option_map};
 ghost use Rattle.std.specs.VecDeque.{deque_capacity};
 ghost use Rattle.csp_conn.specs.Opening.{found};
 ghost use Rattle.csp_conn.specs.PlainConns.{IsThere, slot_at};
-ghost use Rattle.csp_conn.specs.Slots.{between};
 ghost use Rattle.csp_deck.specs.Carried.{IsReply};
 ghost use Rattle.csp_ports.specs.Counts.{AreFar};
 ghost use Rattle.csp_ports.specs.Held.{held};
@@ -21,8 +20,8 @@ use crate::owed::Owed;
 use crate::stalled::Stalled;
 use crate::terms::{SlotState, Terms};
 use csp_arena::RegionToken;
-use csp_base::{ALL_SLOTS, Addr, MAX_APPS, Port, SLOTS};
-use csp_conn::{Conns, Slot, place};
+use csp_base::{ALL_SLOTS, MAX_APPS, Port, SLOTS, Seat};
+use csp_conn::{Connection, Conns, Slot, place};
 use csp_deck::Note;
 use csp_rdp::{Rdp, State};
 use csp_socket::Sockets;
@@ -94,49 +93,49 @@ impl Ports {
     }
 
     /// What a slot has.
-    pub fn slot(&self, app: u8, slot: u8) -> Slot
-        requires { IsThere self.now.ports.conns app slot }
-        ensures { result ≡ slot_at self.now.ports.conns app slot }
+    pub fn slot(&self, seat: Seat) -> Slot
+        requires { IsThere self.now.ports.conns seat }
+        ensures { result ≡ slot_at self.now.ports.conns seat }
     {
-        self.conns.slot(app, slot)
+        self.conns.slot(seat)
     }
 
     /// How a slot's packets are sent, and how far the slot has come.
-    pub fn terms(&self, app: u8, slot: u8) -> Terms
-        requires { IsThere self.now.ports.conns app slot }
-        ensures value { result ≡ terms_at self.now.ports app slot }
+    pub fn terms(&self, seat: Seat) -> Terms
+        requires { IsThere self.now.ports.conns seat }
+        ensures value { result ≡ terms_at self.now.ports seat }
 
         // With those still to come an application has no more answers than it may have.
         ensures due { (a : ℕ) → waiting a self.now.ports.owed + wishes a (terms_of self.now.ports) ≤ ANSWERS }
     {
-        self.slots[place(app, slot)].terms
+        self.slots[place(seat)].terms
     }
 
     /// The machine of a slot's reliable connection, where the slot has one.
-    pub fn machine(&self, app: u8, slot: u8) -> Option<&Rdp>
-        requires { IsThere self.now.ports.conns app slot }
-        ensures { option_map (λ r. placed nowhere r.now) result ≡ (state_at self.now.ports app slot).machine }
+    pub fn machine(&self, seat: Seat) -> Option<&Rdp>
+        requires { IsThere self.now.ports.conns seat }
+        ensures { option_map (λ r. placed nowhere r.now) result ≡ (state_at self.now.ports seat).machine }
     {
-        self.slots[place(app, slot)].machine.as_ref()
+        self.slots[place(seat)].machine.as_ref()
     }
 
     /// The state of a slot's reliable connection: without one it is closed.
-    pub(crate) fn state(&self, app: u8, slot: u8) -> State
-        requires { IsThere self.now.ports.conns app slot }
-        ensures { result ≡ (machine_at self.now.ports app slot).state }
+    pub(crate) fn state(&self, seat: Seat) -> State
+        requires { IsThere self.now.ports.conns seat }
+        ensures { result ≡ (machine_at self.now.ports seat).state }
     {
-        match self.machine(app, slot) {
+        match self.machine(seat) {
             Some(machine) => machine.state(),
             None => State::Closed,
         }
     }
 
-    /// The application and the slot that have this connection.
-    pub fn find(&self, peer: Addr, peer_port: Port, own_port: Port) -> Option<(u8, u8)>
-        ensures value { result ≡ found self.now.ports.conns (between peer peer_port own_port) }
-        ensures there { IfSome result (λ at. IsThere self.now.ports.conns at.0 at.1) }
+    /// The seat that has this connection.
+    pub fn find(&self, connection: Connection) -> Option<Seat>
+        ensures value { result ≡ found self.now.ports.conns connection }
+        ensures there { IfSome result (λ seat. IsThere self.now.ports.conns seat) }
     {
-        self.conns.find(peer, peer_port, own_port)
+        self.conns.find(connection)
     }
 
     /// The application that bound a port, and the flags that a packet needs there.
@@ -189,15 +188,15 @@ impl Ports {
     }
 
     /// Other terms for a slot, with no more answers still to come.
-    pub(crate) fn set_terms(&mut self, app: u8, slot: u8, terms: Terms)
-        requires there { IsThere self.old.ports.conns app slot }
-        requires due { (waiting app self.old.ports.owed + wishes app (terms_of self.old.ports)) + wished terms.wish ≤ ANSWERS + wished (terms_at self.old.ports app slot).wish }
-        ensures ports { self.new ≡ with_ports_at self.old (with_terms self.old.ports app slot terms) }
-        ensures wishes { wishes app (terms_of self.new.ports) + wished (terms_at self.old.ports app slot).wish ≡ wishes app (terms_of self.old.ports) + wished terms.wish }
+    pub(crate) fn set_terms(&mut self, seat: Seat, terms: Terms)
+        requires there { IsThere self.old.ports.conns seat }
+        requires due { (waiting seat.app self.old.ports.owed + wishes seat.app (terms_of self.old.ports)) + wished terms.wish ≤ ANSWERS + wished (terms_at self.old.ports seat).wish }
+        ensures ports { self.new ≡ with_ports_at self.old (with_terms self.old.ports seat terms) }
+        ensures wishes { wishes seat.app (terms_of self.new.ports) + wished (terms_at self.old.ports seat).wish ≡ wishes seat.app (terms_of self.old.ports) + wished terms.wish }
         ensures held { held self.new.ports ≡ held self.old.ports }
         ensures far { (n : ℕ) → AreFar n self.old.ports → terms.ordinal ≤ n → AreFar n self.new.ports }
     {
-        self.slots[place(app, slot)].terms = terms;
+        self.slots[place(seat)].terms = terms;
     }
 }
 

@@ -1,12 +1,12 @@
 //! What an application asks for when it asks for a connection.
 
-use csp_base::{Addr, Port, Prio};
+use csp_base::{Addr, Port, Prio, Seat};
 
 /// A connection that an application asks for.
 #[derive(Clone, Copy)]
 pub struct Request {
-    /// The slot that it is to have.
-    pub slot: u8,
+    /// The seat that it is to have.
+    pub seat: Seat,
     /// The node at its other end.
     pub dest: Addr,
     /// The port there.

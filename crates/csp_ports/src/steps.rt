@@ -3,24 +3,25 @@
 ghost use Rattle.std.specs.Prelude.{◌≡◌, not, ◌+◌, ◌-◌, ◌*◌, ◌^◌, ◌<◌, ◌≤◌, ℕ, [], ◌∷◌, ◌++◌, length, None, Some, IfSome};
 ghost use Rattle.std.specs.List.{range_with_len};
 ghost use Rattle.std.specs.Option.{option_map};
+ghost use Rattle.csp_base.specs.Seat.{seat};
 ghost use Rattle.csp_conn.specs.PlainConns.{IsThere};
 ghost use Rattle.csp_deck.specs.Keeping.{with_contents};
 ghost use Rattle.csp_deck.specs.Regions.{nowhere};
 ghost use Rattle.csp_log.specs.declared.event.Discard.TheVariants as why;
 ghost use Rattle.csp_log.specs.declared.event.Event.TheVariants as event;
 ghost use Rattle.csp_log.specs.declared.event.TheConstants.{MAX_EVENTS};
-ghost use Rattle.csp_ports.specs.Came.{Comes, discarding, pictures};
+ghost use Rattle.csp_ports.specs.Came.{Comes, at_work, discarding, pictures};
 ghost use Rattle.csp_ports.specs.Held.{held, stalled_buffers};
-ghost use Rattle.csp_ports.specs.Keeps.{Keeps};
-ghost use Rattle.csp_ports.specs.Kept.{Admits, AdmitsIn, IsHoused, IsRoomy, IsWaiting, stalled_of, wished, wishes};
+ghost use Rattle.csp_ports.specs.Keeps.{Keeps, at_hand};
+ghost use Rattle.csp_ports.specs.Kept.{Admits, IsHoused, IsRoomy, IsWaiting, stalled_of, wished, wishes};
 ghost use Rattle.csp_ports.specs.PlainPorts.{anywhere, machine_at, stalled_at, terms_at, terms_of, with_stalled, with_ports_at};
-ghost use Rattle.csp_ports.specs.Steps.{changed, closed, connected, dropped, dropped_of, freed, has_room, reason_of, refused, replaced, settled, timed, timed_at, timed_in};
+ghost use Rattle.csp_ports.specs.Steps.{admitted, changed, closed, connected, dropped, dropped_of, freed, has_room, reason_of, refused, replaced, settled, timed, timed_at, timed_in};
 ghost use Rattle.csp_ports.specs.Counts.{IsCountable};
 ghost use Rattle.csp_rdp.specs.Balance.{IsWhole};
 ghost use Rattle.csp_rdp.specs.Changes.{change_between};
 ghost use Rattle.csp_rdp.specs.Counts.{IsFar};
 ghost use Rattle.csp_rdp.specs.Holding.{rdp_buffers, rdp_numbers, rested, unneeded};
-ghost use Rattle.csp_rdp.specs.Jobs.{ticked};
+ghost use Rattle.csp_rdp.specs.Jobs.{admitting, ticked};
 ghost use Rattle.csp_rdp.specs.Placed.{placed};
 ghost use Rattle.csp_rdp.specs.Regions.{AreAllIn};
 ghost use Rattle.csp_rdp_window.specs.Sending.{is_full};
@@ -29,7 +30,7 @@ ghost use Rattle.csp_rdp.specs.declared.answers.Cause.TheVariants as machine_why
 use crate::ports::Ports;
 use crate::stalled::{Stalled, put};
 use crate::terms::Wish;
-use csp_base::{MAX_APPS, MAX_PAYLOAD, SLOTS};
+use csp_base::{MAX_APPS, MAX_PAYLOAD, SLOTS, Seat};
 use csp_buffer::Buffer;
 use csp_conn::place;
 use csp_deck::{Discard, Event, Events, Note, Pile, Why};
@@ -100,7 +101,7 @@ pub(crate) fn admit(machine: &mut Rdp, buffer: Buffer, now: u64) -> Result<(), B
     requires housed { IsHoused buffer.region machine.old }
     requires short { length buffer.picture.payload ≤ MAX_PAYLOAD - 9 }
     requires countable { IsFar (2 ^ 32 - 2) machine.old }
-    ensures admits { Admits (has_room (placed nowhere machine.old)) result (placed nowhere machine.old) (placed nowhere machine.new) buffer now }
+    ensures admits { Admits (has_room (placed nowhere machine.old)) result buffer (placed nowhere machine.new ≡ admitting (anywhere buffer.picture) now (placed nowhere machine.old)) (placed nowhere machine.new ≡ placed nowhere machine.old) }
     ensures housed { IsHoused buffer.region machine.new }
 {
     match machine.state() {
@@ -131,7 +132,7 @@ fn admit_open(machine: &mut Rdp, buffer: Buffer, now: u64) -> Result<(), Buffer>
     requires open { machine.old.state ≡ State.Open }
     requires short { length buffer.picture.payload ≤ MAX_PAYLOAD - 9 }
     requires countable { IsFar (2 ^ 32 - 2) machine.old }
-    ensures admits { Admits (not (is_full machine.old.send)) result (placed nowhere machine.old) (placed nowhere machine.new) buffer now }
+    ensures admits { Admits (not (is_full machine.old.send)) result buffer (placed nowhere machine.new ≡ admitting (anywhere buffer.picture) now (placed nowhere machine.old)) (placed nowhere machine.new ≡ placed nowhere machine.old) }
     ensures housed { IsHoused buffer.region machine.new }
 {
     sees_no_region();
@@ -150,11 +151,11 @@ impl Ports {
     pub fn tick(&mut self, now: u64, trash: &mut Pile, report: &mut Events)
         requires roomy { IsRoomy 0 self.old trash.old }
         requires report { report.old.items ≡ [] }
-        ensures comes { Comes self.old self.new trash.old trash.new report.old.items report.new.items (timed now self.old.ports) }
+        ensures comes { Comes (at_work self.old trash.old report.old.items) (at_work self.new trash.new report.new.items) (timed now self.old.ports) }
         ensures quiet { trash.new.contents ≡ [] → report.new.items ≡ [] }
         ensures few { length report.new.items ≤ MAX_APPS }
         ensures apps { self.new.ports.conns.apps ≡ self.old.ports.conns.apps }
-        ensures keeps { Keeps 0 self.old.ports self.new.ports trash.old.contents trash.new.contents [] }
+        ensures keeps { Keeps 0 (at_hand self.old.ports trash.old.contents) (at_hand self.new.ports trash.new.contents) [] }
     {
         self.whole();
         self.tick_all(now, trash, report);
@@ -164,21 +165,21 @@ impl Ports {
     fn tick_all(&mut self, now: u64, trash: &mut Pile, report: &mut Events)
         requires roomy { IsRoomy 0 self.old trash.old }
         requires report { report.old.items ≡ [] }
-        ensures comes { Comes self.old self.new trash.old trash.new report.old.items report.new.items (timed_in now (range_with_len 0 (self.old.ports.conns.apps * SLOTS)) self.old.ports) }
+        ensures comes { Comes (at_work self.old trash.old report.old.items) (at_work self.new trash.new report.new.items) (timed_in now (range_with_len 0 (self.old.ports.conns.apps * SLOTS)) self.old.ports) }
         ensures roomy { IsRoomy 0 self.new trash.new }
         ensures report { report.new.items ≡ [] }
         ensures apps { self.new.ports.conns.apps ≡ self.old.ports.conns.apps }
     {
         for at in 0..self.slot_count() {
-            let (app, slot) = self.slot_at(at);
-            self.tick_at(app, slot, now, trash, report);
+            let seat = self.seat_at(at);
+            self.tick_at(seat, now, trash, report);
         }
     }
 
     fn drop_all(&mut self, trash: &mut Pile, report: &mut Events)
         requires roomy { IsRoomy 0 self.old trash.old }
         requires report { report.old.items ≡ [] }
-        ensures comes { Comes self.old self.new trash.old trash.new report.old.items report.new.items (dropped_of (range_with_len 0 self.old.ports.conns.apps) self.old.ports) }
+        ensures comes { Comes (at_work self.old trash.old report.old.items) (at_work self.new trash.new report.new.items) (dropped_of (range_with_len 0 self.old.ports.conns.apps) self.old.ports) }
         ensures few { length report.new.items ≤ MAX_APPS }
         ensures apps { self.new.ports.conns.apps ≡ self.old.ports.conns.apps }
     {
@@ -188,20 +189,20 @@ impl Ports {
     }
 
     /// Tries the timer of a slot.
-    fn tick_at(&mut self, app: u8, slot: u8, now: u64, trash: &mut Pile, report: &mut Events)
-        requires there { IsThere self.old.ports.conns app slot }
+    fn tick_at(&mut self, seat: Seat, now: u64, trash: &mut Pile, report: &mut Events)
+        requires there { IsThere self.old.ports.conns seat }
         requires roomy { IsRoomy 0 self.old trash.old }
         requires report { length report.old.items < MAX_EVENTS }
-        ensures comes { Comes self.old self.new trash.old trash.new report.old.items report.new.items (timed_at now app slot self.old.ports) }
+        ensures comes { Comes (at_work self.old trash.old report.old.items) (at_work self.new trash.new report.new.items) (timed_at now seat self.old.ports) }
         ensures quiet { report.new.items ≡ report.old.items }
         ensures roomy { IsRoomy 0 self.new trash.new }
         ensures apps { self.new.ports.conns.apps ≡ self.old.ports.conns.apps }
     {
-        let Some(machine) = &mut self.slots[place(app, slot)].machine else {
+        let Some(machine) = &mut self.slots[place(seat)].machine else {
             return;
         };
         let change = tick(machine, now, trash);
-        self.change(change, app, slot, trash, report);
+        self.change(change, seat, trash, report);
     }
 
     /// What a change of a slot's connection comes to, which the application did not ask for.
@@ -209,15 +210,14 @@ impl Ports {
     pub(crate) fn change(
         &mut self,
         change: Change,
-        app: u8,
-        slot: u8,
+        seat: Seat,
         trash: &mut Pile,
         report: &mut Events,
     )
-        requires there { IsThere self.old.ports.conns app slot }
+        requires there { IsThere self.old.ports.conns seat }
         requires roomy { IsRoomy 0 self.old trash.old }
         requires report { length report.old.items < MAX_EVENTS }
-        ensures comes { Comes self.old self.new trash.old trash.new report.old.items report.new.items (changed change app slot self.old.ports) }
+        ensures comes { Comes (at_work self.old trash.old report.old.items) (at_work self.new trash.new report.new.items) (changed change seat self.old.ports) }
         ensures roomy { IsRoomy 0 self.new trash.new }
         ensures few { length report.new.items ≤ length report.old.items + 1 }
         ensures apps { self.new.ports.conns.apps ≡ self.old.ports.conns.apps }
@@ -225,30 +225,31 @@ impl Ports {
         match change {
             Change::None => {}
             Change::Opened => {
-                self.report_opening(app, slot, report);
-                self.answer_connect(app, slot);
+                self.report_opening(seat, report);
+                self.answer_connect(seat);
             }
-            Change::Refused(why) => self.refuse(app, slot, why, trash),
+            Change::Refused(why) => self.refuse(seat, why, trash),
             Change::Down => {
-                let mut terms = self.terms(app, slot);
+                let mut terms = self.terms(seat);
                 terms.is_down = true;
-                self.set_terms(app, slot, terms);
+                self.set_terms(seat, terms);
             }
-            Change::Closed => self.answer_close(app, slot, trash),
+            Change::Closed => self.answer_close(seat, trash),
         }
     }
 
     /// That a slot's reliable connection is open is reported.
     #[inline(never)]
-    fn report_opening(&self, app: u8, slot: u8, report: &mut Events)
-        requires there { IsThere self.now.ports.conns app slot }
+    fn report_opening(&self, seat: Seat, report: &mut Events)
+        requires there { IsThere self.now.ports.conns seat }
         requires report { length report.old.items < MAX_EVENTS }
-        ensures { report.new.items ≡ report.old.items ++ (event.Opened app slot (Some (machine_at self.now.ports app slot).nth) (machine_at self.now.ports app slot).peer) ∷ [] }
+        ensures { report.new.items ≡ report.old.items ++ (event.Opened seat.app seat.slot (Some (machine_at self.now.ports seat).nth) (machine_at self.now.ports seat).peer) ∷ [] }
     {
-        let (nth, peer) = match self.machine(app, slot) {
+        let (nth, peer) = match self.machine(seat) {
             Some(machine) => (machine.nth(), machine.peer()),
             None => (0, None),
         };
+        let Seat { app, slot } = seat;
         report.push(Event::Opened {
             app,
             slot,
@@ -259,108 +260,104 @@ impl Ports {
 
     /// The application that waited for its connection is told that it is open.
     #[inline(never)]
-    fn answer_connect(&mut self, app: u8, slot: u8)
-        requires there { IsThere self.old.ports.conns app slot }
-        ensures ports { self.new ≡ with_ports_at self.old (connected app slot self.old.ports) }
+    fn answer_connect(&mut self, seat: Seat)
+        requires there { IsThere self.old.ports.conns seat }
+        ensures ports { self.new ≡ with_ports_at self.old (connected seat self.old.ports) }
         ensures held { held self.new.ports ≡ held self.old.ports }
     {
-        let mut terms = self.terms(app, slot);
+        let mut terms = self.terms(seat);
         if terms.wish == Wish::Connection {
             terms.wish = Wish::Nothing;
-            self.set_terms(app, slot, terms);
-            self.owe(app, Note::Connected { slot });
+            self.set_terms(seat, terms);
+            self.owe(seat.app, Note::Connected { slot: seat.slot });
         }
     }
 
     /// A connection that was asked for is refused: its slot is free, and the application that waited is told
     /// so.
     #[inline(never)]
-    fn refuse(&mut self, app: u8, slot: u8, why: MachineWhy, trash: &mut Pile)
-        requires there { IsThere self.old.ports.conns app slot }
+    fn refuse(&mut self, seat: Seat, why: MachineWhy, trash: &mut Pile)
+        requires there { IsThere self.old.ports.conns seat }
         requires roomy { IsRoomy 0 self.old trash.old }
-        ensures comes { Comes self.old self.new trash.old trash.new [] [] (refused why app slot self.old.ports) }
+        ensures comes { Comes (at_work self.old trash.old []) (at_work self.new trash.new []) (refused why seat self.old.ports) }
         ensures roomy { IsRoomy 0 self.new trash.new }
         ensures apps { self.new.ports.conns.apps ≡ self.old.ports.conns.apps }
     {
-        let waits = self.terms(app, slot).wish == Wish::Connection;
-        self.free(app, slot, trash);
+        let waits = self.terms(seat).wish == Wish::Connection;
+        self.free(seat, trash);
         if waits {
-            self.owe(
-                app,
-                Note::Refused {
-                    why: reason_of(why),
-                },
-            );
+            let why = reason_of(why);
+            self.owe(seat.app, Note::Refused { why });
         }
     }
 
     /// A connection is closed: the application that asked for that is told so, and the slot of one that
     /// never was open is free.
     #[inline(never)]
-    fn answer_close(&mut self, app: u8, slot: u8, trash: &mut Pile)
-        requires there { IsThere self.old.ports.conns app slot }
+    fn answer_close(&mut self, seat: Seat, trash: &mut Pile)
+        requires there { IsThere self.old.ports.conns seat }
         requires roomy { IsRoomy 0 self.old trash.old }
-        ensures comes { Comes self.old self.new trash.old trash.new [] [] (closed app slot self.old.ports) }
+        ensures comes { Comes (at_work self.old trash.old []) (at_work self.new trash.new []) (closed seat self.old.ports) }
         ensures roomy { IsRoomy 0 self.new trash.new }
         ensures apps { self.new.ports.conns.apps ≡ self.old.ports.conns.apps }
     {
-        let mut terms = self.terms(app, slot);
+        let mut terms = self.terms(seat);
         match terms.wish {
             Wish::End => {
                 terms.wish = Wish::Ended;
-                self.set_terms(app, slot, terms);
-                self.owe(app, Note::Closed { slot });
+                self.set_terms(seat, terms);
+                self.owe(seat.app, Note::Closed { slot: seat.slot });
             }
-            Wish::Nothing => match self.machine(app, slot) {
+            Wish::Nothing => match self.machine(seat) {
                 Some(machine) if machine.was_open() => {}
-                _ => self.free(app, slot, trash),
+                _ => self.free(seat, trash),
             },
             Wish::Connection | Wish::Ended => {}
         }
     }
 
     /// A slot is free without an answer to a close.
-    fn free(&mut self, app: u8, slot: u8, trash: &mut Pile)
-        requires there { IsThere self.old.ports.conns app slot }
+    fn free(&mut self, seat: Seat, trash: &mut Pile)
+        requires there { IsThere self.old.ports.conns seat }
         requires roomy { IsRoomy 0 self.old trash.old }
-        ensures comes { Comes self.old self.new trash.old trash.new [] [] (freed (terms_at self.old.ports app slot).ordinal app slot self.old.ports) }
-        ensures wishes { wishes app (terms_of self.new.ports) + wished (terms_at self.old.ports app slot).wish ≡ wishes app (terms_of self.old.ports) }
+        ensures comes { Comes (at_work self.old trash.old []) (at_work self.new trash.new []) (freed (terms_at self.old.ports seat).ordinal seat self.old.ports) }
+        ensures wishes { wishes seat.app (terms_of self.new.ports) + wished (terms_at self.old.ports seat).wish ≡ wishes seat.app (terms_of self.old.ports) }
         ensures roomy { IsRoomy 0 self.new trash.new }
         ensures apps { self.new.ports.conns.apps ≡ self.old.ports.conns.apps }
     {
-        let terms = self.terms(app, slot);
-        self.free_as(app, slot, terms.ordinal, trash);
+        let terms = self.terms(seat);
+        self.free_as(seat, terms.ordinal, trash);
     }
 
     /// A slot is free, and its next connection is of this ordinal.
-    pub(crate) fn free_as(&mut self, app: u8, slot: u8, ordinal: u32, trash: &mut Pile)
-        requires there { IsThere self.old.ports.conns app slot }
+    pub(crate) fn free_as(&mut self, seat: Seat, ordinal: u32, trash: &mut Pile)
+        requires there { IsThere self.old.ports.conns seat }
         requires roomy { IsRoomy 0 self.old trash.old }
-        ensures comes { Comes self.old self.new trash.old trash.new [] [] (freed ordinal app slot self.old.ports) }
-        ensures wishes { wishes app (terms_of self.new.ports) + wished (terms_at self.old.ports app slot).wish ≡ wishes app (terms_of self.old.ports) }
+        ensures comes { Comes (at_work self.old trash.old []) (at_work self.new trash.new []) (freed ordinal seat self.old.ports) }
+        ensures wishes { wishes seat.app (terms_of self.new.ports) + wished (terms_at self.old.ports seat).wish ≡ wishes seat.app (terms_of self.old.ports) }
         ensures roomy { IsRoomy 0 self.new trash.new }
         ensures apps { self.new.ports.conns.apps ≡ self.old.ports.conns.apps }
     {
-        let mut terms = self.terms(app, slot);
-        self.conns.free(app, slot);
+        let mut terms = self.terms(seat);
+        self.conns.free(seat);
         terms.wish = Wish::Nothing;
         terms.is_down = false;
         terms.ordinal = ordinal;
-        self.set_terms(app, slot, terms);
-        self.replace(app, slot, None, trash);
+        self.set_terms(seat, terms);
+        self.replace(seat, None, trash);
     }
 
     /// Another machine takes the place of a slot's, or none; what that one still held joins the trash.
-    pub(crate) fn replace(&mut self, app: u8, slot: u8, machine: Option<Rdp>, trash: &mut Pile)
-        requires there { IsThere self.old.ports.conns app slot }
+    pub(crate) fn replace(&mut self, seat: Seat, machine: Option<Rdp>, trash: &mut Pile)
+        requires there { IsThere self.old.ports.conns seat }
         requires housed { IfSome machine (IsHoused self.old.region) }
         requires empty { IfSome machine (λ r. rdp_numbers r ≡ []) }
         requires roomy { IsRoomy 0 self.old trash.old }
-        ensures comes { Comes self.old self.new trash.old trash.new [] [] (replaced app slot (option_map (placed nowhere) machine) self.old.ports) }
+        ensures comes { Comes (at_work self.old trash.old []) (at_work self.new trash.new []) (replaced seat (option_map (placed nowhere) machine) self.old.ports) }
         ensures roomy { IsRoomy 0 self.new trash.new }
         ensures apps { self.new.ports.conns.apps ≡ self.old.ports.conns.apps }
     {
-        let old = std::mem::replace(&mut self.slots[place(app, slot)].machine, machine);
+        let old = std::mem::replace(&mut self.slots[place(seat)].machine, machine);
         let Some(old) = old else {
             return;
         };
@@ -372,27 +369,30 @@ impl Ports {
         requires app { app < self.old.ports.conns.apps }
         requires roomy { IsRoomy 0 self.old trash.old }
         requires report { length report.old.items < MAX_EVENTS }
-        ensures comes { Comes self.old self.new trash.old trash.new report.old.items report.new.items (dropped app self.old.ports) }
+        ensures comes { Comes (at_work self.old trash.old report.old.items) (at_work self.new trash.new report.new.items) (dropped app self.old.ports) }
         ensures roomy { IsRoomy 0 self.new trash.new }
         ensures report { length report.new.items ≤ length report.old.items + 1 }
         ensures apps { self.new.ports.conns.apps ≡ self.old.ports.conns.apps }
     {
-        match self.stalled_slot(app) {
-            Some(slot) if self.state(app, slot) != State::Open => {
+        match self.stalled_seat(app) {
+            Some(seat) if self.state(seat) != State::Open => {
                 self.discard_stalled(app, trash, report);
             }
             _ => {}
         }
     }
 
-    /// The slot for whose window the packet of an application waits.
-    pub(crate) fn stalled_slot(&self, app: u8) -> Option<u8>
+    /// The seat for whose window the packet of an application waits.
+    pub(crate) fn stalled_seat(&self, app: u8) -> Option<Seat>
         requires app { app < self.now.ports.conns.apps }
-        ensures slot { result ≡ option_map (λ s. s.slot) (stalled_at self.now.ports app) }
-        ensures there { IfSome result (λ slot. IsThere self.now.ports.conns app slot) }
+        ensures seat { result ≡ option_map (λ s. seat app s.slot) (stalled_at self.now.ports app) }
+        ensures there { IfSome result (λ seat. IsThere self.now.ports.conns seat) }
     {
         match &self.stalled[app as usize] {
-            Some(stalled) => Some(stalled.slot),
+            Some(stalled) => Some(Seat {
+                app,
+                slot: stalled.slot,
+            }),
             None => None,
         }
     }
@@ -402,7 +402,7 @@ impl Ports {
         requires app { app < self.old.ports.conns.apps }
         requires roomy { IsRoomy 0 self.old trash.old }
         requires report { length report.old.items < MAX_EVENTS }
-        ensures comes { IfSome (stalled_at self.old.ports app) (λ s. Comes self.old self.new trash.old trash.new report.old.items report.new.items (discarding why.NoConn s.buffer.picture (with_stalled self.old.ports app None))) }
+        ensures comes { IfSome (stalled_at self.old.ports app) (λ s. Comes (at_work self.old trash.old report.old.items) (at_work self.new trash.new report.new.items) (discarding why.NoConn s.buffer.picture (with_stalled self.old.ports app None))) }
         ensures roomy { IsRoomy 0 self.new trash.new }
         ensures few { length report.new.items ≤ length report.old.items + 1 }
         ensures apps { self.new.ports.conns.apps ≡ self.old.ports.conns.apps }
@@ -432,40 +432,36 @@ impl Ports {
     {
         if let Some(stalled) = self.take_stalled(app) {
             let Stalled { slot, buffer } = stalled;
-            if let Err(buffer) = self.admit(app, slot, buffer, now) {
-                self.stall(app, slot, buffer);
+            let seat = Seat { app, slot };
+            if let Err(buffer) = self.admit(seat, buffer, now) {
+                self.stall(seat, buffer);
             }
         }
     }
 
     /// A packet is admitted to the window of a slot's connection where there is room, or handed back.
-    pub(crate) fn admit(
-        &mut self,
-        app: u8,
-        slot: u8,
-        buffer: Buffer,
-        now: u64,
-    ) -> Result<(), Buffer>
-        requires there { IsThere self.old.ports.conns app slot }
+    pub(crate) fn admit(&mut self, seat: Seat, buffer: Buffer, now: u64) -> Result<(), Buffer>
+        requires there { IsThere self.old.ports.conns seat }
         requires of_it { buffer.region ≡ self.old.region }
         requires short { length buffer.picture.payload ≤ MAX_PAYLOAD - 9 }
-        requires countable { IsFar (2 ^ 32 - 2) (machine_at self.old.ports app slot) }
-        ensures { AdmitsIn (has_room (machine_at self.old.ports app slot)) result self.old self.new app slot buffer now }
+        requires countable { IsFar (2 ^ 32 - 2) (machine_at self.old.ports seat) }
+        ensures { Admits (has_room (machine_at self.old.ports seat)) result buffer (self.new ≡ with_ports_at self.old (admitted now seat (anywhere buffer.picture) self.old.ports)) (self.new ≡ self.old) }
     {
-        let Some(machine) = &mut self.slots[place(app, slot)].machine else {
+        let Some(machine) = &mut self.slots[place(seat)].machine else {
             return Err(buffer);
         };
         admit(machine, buffer, now)
     }
 
     /// A packet of an application waits for room in a slot's window, where none waits.
-    pub(crate) fn stall(&mut self, app: u8, slot: u8, buffer: Buffer)
-        requires there { IsThere self.old.ports.conns app slot }
+    pub(crate) fn stall(&mut self, seat: Seat, buffer: Buffer)
+        requires there { IsThere self.old.ports.conns seat }
         requires of_it { buffer.region ≡ self.old.region }
         requires short { length buffer.picture.payload ≤ MAX_PAYLOAD - 9 }
-        requires none { stalled_at self.old.ports app ≡ None }
-        ensures { self.new ≡ with_ports_at self.old (with_stalled self.old.ports app (Some (record { slot = slot; buffer = anywhere buffer.picture }))) }
+        requires none { stalled_at self.old.ports seat.app ≡ None }
+        ensures { self.new ≡ with_ports_at self.old (with_stalled self.old.ports seat.app (Some (record { slot = seat.slot; buffer = anywhere buffer.picture }))) }
     {
+        let Seat { app, slot } = seat;
         put(&mut self.stalled[app as usize], Stalled { slot, buffer });
     }
 }

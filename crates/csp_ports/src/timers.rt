@@ -71,8 +71,8 @@ impl Ports {
         requires { app < self.now.ports.conns.apps }
         ensures { result ≡ is_stranded self.now.ports app }
     {
-        match self.stalled_slot(app) {
-            Some(slot) => self.state(app, slot) != State::Open,
+        match self.stalled_seat(app) {
+            Some(seat) => self.state(seat) != State::Open,
             None => false,
         }
     }

@@ -10,6 +10,7 @@ use Rattle.std.specs.Option.{option_map, option_map_or}
 use Rattle.std.specs.Ordering.{nat_cmp, ordering_then, is_eq}
 use Rattle.std.specs.declared.cmp.Ordering.{Ordering}
 use Rattle.std.specs.declared.cmp.Ordering.TheVariants.{Less, Equal, Greater}
+use Rattle.csp_base.specs.Seat.{seat}
 use Rattle.csp_log.specs.Moving.{moved_in}
 use Rattle.csp_log.specs.Noting.{noted_in}
 use Rattle.csp_log.specs.PlainLog.{all_events}
@@ -91,7 +92,7 @@ told-on {X} {Y} test here y (x ∷ xs) = by here (test x) (told-on test here y x
 -- what an entry tells that popped this payload
 pub entry-told : (which : Transfer) (app s o : ℕ) (counts : List ℕ) (found : Option Entry) (moved : Moved) (events : List Event) (payload : List ℕ)
     → option_map moved_in found ≡ Some moved → option_map (λ e. e.events.items) found ≡ Some events → Some payload ≡ carried which app moved
-    → flat_map (λ e. cond (is_on which s e && eqb (get_or counts s 0) o) (payload ∷ []) []) events ≡ option_map_or (λ e. cond (eqb (get_or counts s 0) o) (payloads_in which app s e) []) found []
+    → flat_map (λ e. cond (is_on which s e && eqb (get_or counts s 0) o) (payload ∷ []) []) events ≡ option_map_or (λ e. cond (eqb (get_or counts s 0) o) (payloads_in which (seat app s) e) []) found []
 entry-told which app s o counts None moved events payload is tells brings = cc
 entry-told which app s o counts (Some e) moved events payload is tells brings =
     let here : Bool = eqb (get_or counts s 0) o in
@@ -102,7 +103,7 @@ entry-told which app s o counts (Some e) moved events payload is tells brings =
 
 -- with one entry more, each slot has at most one end more
 pub ended-few : (which : Transfer) (app : ℕ) (note : Noted) (ends more : Ends) (most : ℕ) → ((slot : ℕ) → more slot ≡ ended which app note ends slot) → ((slot : ℕ) → ends slot ≤ most) → (slot : ℕ) → more slot ≤ most + 1
-ended-few which app note ends more most is few slot = rw (is slot) (one (frees which app slot note))
+ended-few which app note ends more most is few slot = rw (is slot) (one (frees which (seat app slot) note))
   where
     one : (b : Bool) → cond b (ends slot + 1) (ends slot) ≤ most + 1
     one true = omega (arith, few slot)

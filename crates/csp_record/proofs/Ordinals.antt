@@ -5,6 +5,8 @@ use Rattle.std.specs.List.{count_by, enumerate_from, filter, flat_map}
 use Rattle.std.proofs.Math.Seq.{take-append_seam}
 use Rattle.std.proofs.lemmas.List.{length-append}
 use Rattle.std.proofs.lemmas.List.Sums.{sum_by-append}
+use Rattle.csp_base.specs.Seat.{seat}
+use Rattle.csp_base.specs.declared.seat.Seat.{Seat}
 use Rattle.csp_log.specs.Noting.{noted_in}
 use Rattle.csp_log.specs.declared.entry.Entry.{Entry}
 use Rattle.csp_log.specs.declared.noted.Noted.{Noted}
@@ -23,7 +25,7 @@ abbrev pub no_ends : Ends
 no_ends slot = 0
 
 abbrev pub ended : Transfer → (app : ℕ) → Noted → Ends → Ends
-ended which app noted ends = λ slot. if frees which app slot noted then ends slot + 1 else ends slot
+ended which app noted ends = λ slot. if frees which (seat app slot) noted then ends slot + 1 else ends slot
 
 -- what entries tell, one after the other, where the slots had these ends before them
 abbrev pub told_after : {Y : Type 0} → Transfer → (app : ℕ) → (Ends → Entry → List Y) → Ends → List Entry → List Y
@@ -32,10 +34,10 @@ told_after which app told ends (e ∷ entries) = told ends e ++ told_after which
 
 -- the ends of a slot after entries
 abbrev ends_of : Transfer → (app : ℕ) → List Entry → Ends
-ends_of which app entries slot = count_by (λ e. frees which app slot (noted_in e)) entries
+ends_of which app entries slot = count_by (λ e. frees which (seat app slot) (noted_in e)) entries
 
 ends_more : (which : Transfer) (app : ℕ) (entries : List Entry) (e : Entry) (slot : ℕ) → ends_of which app (entries ++ e ∷ []) slot ≡ ended which app (noted_in e) (ends_of which app entries) slot
-ends_more which app entries e slot = sum_by-append (λ x. cond (frees which app slot (noted_in x)) 1 0) entries (e ∷ []) ∙ by (ends_of which app entries slot) (frees which app slot (noted_in e))
+ends_more which app entries e slot = sum_by-append (λ x. cond (frees which (seat app slot) (noted_in x)) 1 0) entries (e ∷ []) ∙ by (ends_of which app entries slot) (frees which (seat app slot) (noted_in e))
   where
     by : (n : ℕ) (b : Bool) → n + (0 + cond b 1 0) ≡ cond b (n + 1) n
     by n true = omega arith
@@ -43,14 +45,14 @@ ends_more which app entries e slot = sum_by-append (λ x. cond (frees which app 
 
 -- both ways of reading give the same
 by_place : {Y : Type 0} (which : Transfer) (app : ℕ) (told : Ends → Entry → List Y) (before entries : List Entry)
-    → flat_map (λ e. told (λ slot. ordinal_at which app slot (before ++ entries) e.0) e.1) (enumerate_from (length before) entries) ≡ told_after which app told (ends_of which app before) entries
+    → flat_map (λ e. told (λ slot. ordinal_at which (seat app slot) (before ++ entries) e.0) e.1) (enumerate_from (length before) entries) ≡ told_after which app told (ends_of which app before) entries
 by_place which app told before [] = refl
 by_place {Y} which app told before (e ∷ entries) =
     let whole : (before ++ e ∷ []) ++ entries ≡ before ++ e ∷ entries = append_assoc before (e ∷ []) entries in
     let far : length (before ++ e ∷ []) ≡ length before + 1 = length-append before (e ∷ []) in
-    let at_whole : List Entry → ℕ → List Y = λ all place. flat_map (λ x. told (λ slot. ordinal_at which app slot all x.0) x.1) (enumerate_from place entries) in
-    let here : told (λ slot. ordinal_at which app slot (before ++ e ∷ entries) (length before)) e ≡ told (ends_of which app before) e =
-    λ i. told (λ slot. count_by (λ x. frees which app slot (noted_in x)) (take-append_seam before (e ∷ entries) i)) e in
+    let at_whole : List Entry → ℕ → List Y = λ all place. flat_map (λ x. told (λ slot. ordinal_at which (seat app slot) all x.0) x.1) (enumerate_from place entries) in
+    let here : told (λ slot. ordinal_at which (seat app slot) (before ++ e ∷ entries) (length before)) e ≡ told (ends_of which app before) e =
+    λ i. told (λ slot. count_by (λ x. frees which (seat app slot) (noted_in x)) (take-append_seam before (e ∷ entries) i)) e in
     let later : at_whole (before ++ e ∷ entries) (length before + 1) ≡ told_after which app told (ended which app (noted_in e) (ends_of which app before)) entries =
     (λ i. at_whole (sym whole i) (sym far i)) ∙ by_place which app told (before ++ e ∷ []) entries
     ∙ (λ i. told_after which app told (λ slot. ends_more which app before e slot i) entries) in
@@ -66,17 +68,17 @@ chosen {X} {Y} p f (x ∷ xs) = by (p x) (chosen p f xs)
     by false rest = rest
 
 -- so it is with what is told of a slot where it has an ordinal
-pub on_are : {Y : Type 0} (which : Transfer) (app slot ordinal : ℕ) (told : Entry → List Y) (entries : List Entry)
-    → flat_map told (entries_on which app slot ordinal entries) ≡ told_after which app (λ ends e. if ends slot == ordinal then told e else []) no_ends entries
-on_are which app slot ordinal told entries =
-    chosen (λ e. ordinal_at which app slot entries e.0 == ordinal) told (enumerate_from 0 entries) ∙ by_place which app (λ ends e. if ends slot == ordinal then told e else []) [] entries
+pub on_are : {Y : Type 0} (which : Transfer) (seat : Seat) (ordinal : ℕ) (told : Entry → List Y) (entries : List Entry)
+    → flat_map told (entries_on which seat ordinal entries) ≡ told_after which seat.app (λ ends e. if ends seat.slot == ordinal then told e else []) no_ends entries
+on_are which seat ordinal told entries =
+    chosen (λ e. ordinal_at which seat entries e.0 == ordinal) told (enumerate_from 0 entries) ∙ by_place which seat.app (λ ends e. if ends seat.slot == ordinal then told e else []) [] entries
 
 -- with the payloads of a slot and an ordinal
-abbrev pub payloads_after : Transfer → (app slot ordinal : ℕ) → Ends → List Entry → List (List ℕ)
-payloads_after which app slot ordinal = told_after which app (λ ends e. if ends slot == ordinal then payloads_in which app slot e else [])
+abbrev pub payloads_after : Transfer → Seat → (ordinal : ℕ) → Ends → List Entry → List (List ℕ)
+payloads_after which seat ordinal = told_after which seat.app (λ ends e. if ends seat.slot == ordinal then payloads_in which seat e else [])
 
-pub payloads_are : (which : Transfer) (app slot ordinal : ℕ) (entries : List Entry) → payloads which app slot ordinal entries ≡ payloads_after which app slot ordinal no_ends entries
-payloads_are which app slot ordinal entries = on_are which app slot ordinal (payloads_in which app slot) entries
+pub payloads_are : (which : Transfer) (seat : Seat) (ordinal : ℕ) (entries : List Entry) → payloads which seat ordinal entries ≡ payloads_after which seat ordinal no_ends entries
+payloads_are which seat ordinal entries = on_are which seat ordinal (payloads_in which seat) entries
 
 -- and with openings
 abbrev pub openings_after : (app : ℕ) → Ends → List Entry → List Opening

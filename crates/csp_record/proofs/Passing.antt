@@ -4,6 +4,8 @@ use Rattle.std.proofs.lemmas.List.Elements.{All-head, All-tail, filter_map-appen
 use Rattle.std.proofs.lemmas.List.Folds.{drop_split}
 use Rattle.std.specs.List.{flat_map, filter_map, cons_option, list_any}
 use Rattle.std.specs.Prelude.{All, slice_range, if◌then◌else◌}
+use Rattle.csp_base.specs.Seat.{seat}
+use Rattle.csp_base.specs.declared.seat.Seat.{Seat}
 use Rattle.csp_log.specs.Idling.{IsIdle}
 use Rattle.csp_log.specs.Moving.{moved_in}
 use Rattle.csp_log.specs.Noting.{noted_in}
@@ -61,21 +63,21 @@ pub shown-nothing : (serial : ℕ) (e : Entry) → IsIdle e → shown_in serial 
 shown-nothing serial e idle = ap (λ events. cond (list_any (is_beginning serial) events) (fetched (moved_in e)) None) idle.told
 
 -- it frees no slot, and tells of no payload and of no opening
-frees-nothing : (which : Transfer) (app slot : ℕ) → frees which app slot noted.NoNote ≡ false
-frees-nothing way.Sent app slot = refl
-frees-nothing way.Took app slot = refl
+frees-nothing : (which : Transfer) (s : Seat) → frees which s noted.NoNote ≡ false
+frees-nothing way.Sent s = refl
+frees-nothing way.Took s = refl
 
 ends-stay : (which : Transfer) (app : ℕ) (ends : Ends) (e : Entry) → IsIdle e → (slot : ℕ) → ended which app (noted_in e) ends slot ≡ ends slot
-ends-stay which app ends e idle slot = ap (λ n. ended which app n ends slot) idle.noted ∙ ap (λ b. cond b (ends slot + 1) (ends slot)) (frees-nothing which app slot)
+ends-stay which app ends e idle slot = ap (λ n. ended which app n ends slot) idle.noted ∙ ap (λ b. cond b (ends slot + 1) (ends slot)) (frees-nothing which (seat app slot))
 
 told-over : {Y : Type 0} (which : Transfer) (app : ℕ) (told : Ends → Entry → List Y) → ((ends : Ends) (e : Entry) → IsIdle e → told ends e ≡ []) → (ends : Ends) (entries : List Entry) (i j : ℕ) → i ≤ j → All IsIdle (slice_range entries i j)
     → told_after which app told ends (drop i entries) ≡ told_after which app told ends (drop j entries)
 told-over which app told none ends = dropped-over IsIdle (told_after which app told ends) (λ e entries idle.
     ap (λ here. here ++ told_after which app told (ended which app (noted_in e) ends) entries) (none ends e idle) ∙ (λ i. told_after which app told (λ slot. ends-stay which app ends e idle slot i) entries))
 
-pub payloads-over : (which : Transfer) (app slot ordinal : ℕ) (ends : Ends) (entries : List Entry) (i j : ℕ) → i ≤ j → All IsIdle (slice_range entries i j)
-    → payloads_after which app slot ordinal ends (drop i entries) ≡ payloads_after which app slot ordinal ends (drop j entries)
-payloads-over which app slot ordinal = told-over which app _ (λ ends e idle. ap (λ moved. if ends slot == ordinal then told_on which slot e.events.items (carried which app moved) else []) idle.moved ∙ in_either (ends slot == ordinal))
+pub payloads-over : (which : Transfer) (seat : Seat) (ordinal : ℕ) (ends : Ends) (entries : List Entry) (i j : ℕ) → i ≤ j → All IsIdle (slice_range entries i j)
+    → payloads_after which seat ordinal ends (drop i entries) ≡ payloads_after which seat ordinal ends (drop j entries)
+payloads-over which seat ordinal = told-over which seat.app _ (λ ends e idle. ap (λ moved. if ends seat.slot == ordinal then told_on which seat.slot e.events.items (carried which seat.app moved) else []) idle.moved ∙ in_either (ends seat.slot == ordinal))
   where
     in_either : (b : Bool) → cond {A = List (List ℕ)} b [] [] ≡ []
     in_either true = refl

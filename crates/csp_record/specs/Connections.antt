@@ -1,6 +1,7 @@
 -- what the log of a router tells of the connections of an application that became open
 use Rattle.std.specs.Prelude.{ℕ, Bool, true, false, ◌==◌, if◌then◌else◌, List, [], ◌∷◌}
 use Rattle.std.specs.List.{enumerate_from, flat_map}
+use Rattle.csp_base.specs.Seat.{seat}
 use Rattle.csp_log.specs.declared.entry.Entry.{Entry}
 use Rattle.csp_log.specs.declared.event.Event.{Event}
 use Rattle.csp_log.specs.declared.event.Event.TheVariants as event
@@ -20,4 +21,4 @@ opened_by app ordinals _ = []
 
 -- the openings of an application, in order of time, by the whole log of its router: each entry tells of them with the ordinals that the slots have there
 abbrev pub openings : (app : ℕ) → List Entry → List Opening
-openings app entries = flat_map (λ e. flat_map (opened_by app (λ slot. ordinal_at way.Sent app slot entries e.0)) e.1.events.items) (enumerate_from 0 entries)
+openings app entries = flat_map (λ e. flat_map (opened_by app (λ slot. ordinal_at way.Sent (seat app slot) entries e.0)) e.1.events.items) (enumerate_from 0 entries)

@@ -1,6 +1,7 @@
 -- what an application sent, and what it took, on each of its connections
 use Rattle.std.specs.Prelude.{ℕ, ◌==◌, Bool, false, if◌then◌else◌, Option, None, Some, List, [], ◌∷◌}
 use Rattle.std.specs.List.{flat_map}
+use Rattle.csp_base.specs.declared.seat.Seat.{Seat}
 use Rattle.csp_log.specs.Moving.{moved_in}
 use Rattle.csp_log.specs.declared.entry.Entry.{Entry}
 use Rattle.csp_log.specs.declared.event.Event.{Event}
@@ -36,17 +37,17 @@ told_on which slot events None = []
 told_on which slot events (Some payload) = flat_map (λ e. if is_on which slot e then payload ∷ [] else []) events
 
 -- what an entry tells to be sent, or taken, on a slot
-abbrev pub payloads_in : Transfer → (app slot : ℕ) → Entry → List (List ℕ)
-payloads_in which app slot e = told_on which slot e.events.items (carried which app (moved_in e))
+abbrev pub payloads_in : Transfer → Seat → Entry → List (List ℕ)
+payloads_in which seat e = told_on which seat.slot e.events.items (carried which seat.app (moved_in e))
 
 -- the payloads of a slot and an ordinal: what the entries tell at which the slot has this ordinal, in order of time
-abbrev pub payloads : Transfer → (app slot ordinal : ℕ) → List Entry → List (List ℕ)
-payloads which app slot ordinal entries = flat_map (payloads_in which app slot) (entries_on which app slot ordinal entries)
+abbrev pub payloads : Transfer → Seat → (ordinal : ℕ) → List Entry → List (List ℕ)
+payloads which seat ordinal entries = flat_map (payloads_in which seat) (entries_on which seat ordinal entries)
 
--- what was sent on a connection of this application, by the whole log of its router
-abbrev pub sent : (app slot ordinal : ℕ) → List Entry → List (List ℕ)
-sent app slot ordinal entries = payloads way.Sent app slot ordinal entries
+-- what was sent on a connection of this seat, by the whole log of its router
+abbrev pub sent : Seat → (ordinal : ℕ) → List Entry → List (List ℕ)
+sent seat ordinal entries = payloads way.Sent seat ordinal entries
 
 -- what was taken from it, by the whole log of the application
-abbrev pub took : (app slot ordinal : ℕ) → List Entry → List (List ℕ)
-took app slot ordinal entries = payloads way.Took app slot ordinal entries
+abbrev pub took : Seat → (ordinal : ℕ) → List Entry → List (List ℕ)
+took seat ordinal entries = payloads way.Took seat ordinal entries

@@ -2,6 +2,7 @@
 
 ghost use Rattle.std.specs.Prelude.{◌≡◌, ◌==◌, ℕ, ◌+◌, ◌-◌, ◌^◌, ◌<◌, false, get_or, if◌then◌else◌};
 ghost use Rattle.std.specs.Option.{option_map_or};
+ghost use Rattle.csp_base.specs.Seat.{seat};
 ghost use Rattle.csp_record.specs.Ordinals.{frees};
 
 use crate::payloads::Transfer;
@@ -47,7 +48,7 @@ impl Ends {
     /// popped, in the application's own.
     pub(crate) fn note(&mut self, way: Transfer, app: usize, noted: Noted)
         requires { (slot : ℕ) → get_or self.old slot 0 < 2 ^ 64 - 1 }
-        ensures { (slot : ℕ) → get_or self.new slot 0 ≡ (if frees way app slot noted then get_or self.old slot 0 + 1 else get_or self.old slot 0) }
+        ensures { (slot : ℕ) → get_or self.new slot 0 ≡ (if frees way (seat app slot) noted then get_or self.old slot 0 + 1 else get_or self.old slot 0) }
     {
         if let Some(slot) = freed(way, app, noted) {
             self.counts[usize::from(slot)] += 1;
@@ -57,7 +58,7 @@ impl Ends {
 
 /// The slot of this application for which a Closed answer was moved.
 fn freed(way: Transfer, app: usize, noted: Noted) -> Option<u8>
-    ensures { (slot : ℕ) → option_map_or (λ freed. freed == slot) result false ≡ frees way app slot noted }
+    ensures { (slot : ℕ) → option_map_or (λ freed. freed == slot) result false ≡ frees way (seat app slot) noted }
 {
     match (way, noted) {
         (Transfer::Sent, Noted::Pushed(QueueId::Down(number), Note::Closed { slot }))

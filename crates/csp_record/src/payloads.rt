@@ -3,6 +3,7 @@
 ghost use Rattle.std.specs.Prelude.{◌≡◌, ◌==◌, ◌&&◌, ◌++◌, ◌∷◌, ◌<◌, if◌then◌else◌, ℕ, [], get_or, length, slice_get, unwrap_or, OnOk, IfOk};
 ghost use Rattle.std.specs.List.{flat_map};
 ghost use Rattle.std.specs.Option.{option_map, option_map_or};
+ghost use Rattle.csp_base.specs.Seat.{seat};
 ghost use Rattle.csp_record.specs.Payloads.{leads, carried, is_on, payloads_in, payloads, sent, took};
 ghost use Rattle.csp_record.specs.Traffic.{payloads_on, Gains};
 
@@ -199,7 +200,7 @@ fn add_entry<'a>(
     index: u64,
 ) -> Result<(), AllocError>
     requires { index < length log.now.entries }
-    ensures { OnOk result (Gains table.old.entries table.new.entries (λ s o. option_map_or (λ e. if get_or ends.now s 0 == o then payloads_in way app s e else []) (slice_get log.now.entries index) [])) }
+    ensures { OnOk result (Gains table.old.entries table.new.entries (λ s o. option_map_or (λ e. if get_or ends.now s 0 == o then payloads_in way (seat app s) e else []) (slice_get log.now.entries index) [])) }
 {
     match carried(&log.moved(index), way, app) {
         Some(payload) => add_told(alloc, table, ends, way, payload, log.events(index)),
@@ -214,7 +215,7 @@ fn traffic_of<'a>(
     way: Transfer,
     app: usize,
 ) -> Result<Traffic<'a>, AllocError>
-    ensures { IfOk result (λ traffic. (slot ordinal : ℕ) → payloads_on traffic slot ordinal ≡ payloads way app slot ordinal log.now.entries) }
+    ensures { IfOk result (λ traffic. (slot ordinal : ℕ) → payloads_on traffic slot ordinal ≡ payloads way (seat app slot) ordinal log.now.entries) }
 {
     let mut table = BTreeMap::new(alloc);
     let mut ends = Ends::none();
@@ -230,7 +231,7 @@ fn traffic_of<'a>(
 /// What was sent on the connections of this application, by the log of its router: the payloads that the
 /// router popped from its `Up`, where it reported so.
 pub fn sent<'a>(alloc: Global, log: &'a Log, app: usize) -> Result<Traffic<'a>, AllocError>
-    ensures { IfOk result (λ traffic. (slot ordinal : ℕ) → payloads_on traffic slot ordinal ≡ sent app slot ordinal log.now.entries) }
+    ensures { IfOk result (λ traffic. (slot ordinal : ℕ) → payloads_on traffic slot ordinal ≡ sent (seat app slot) ordinal log.now.entries) }
 {
     traffic_of(alloc, log, Transfer::Sent, app)
 }
@@ -238,7 +239,7 @@ pub fn sent<'a>(alloc: Global, log: &'a Log, app: usize) -> Result<Traffic<'a>, 
 /// What was taken from the connections of this application, by its own log: the payloads that it popped from
 /// its `Down`, where it reported so.
 pub fn took<'a>(alloc: Global, log: &'a Log, app: usize) -> Result<Traffic<'a>, AllocError>
-    ensures { IfOk result (λ traffic. (slot ordinal : ℕ) → payloads_on traffic slot ordinal ≡ took app slot ordinal log.now.entries) }
+    ensures { IfOk result (λ traffic. (slot ordinal : ℕ) → payloads_on traffic slot ordinal ≡ took (seat app slot) ordinal log.now.entries) }
 {
     traffic_of(alloc, log, Transfer::Took, app)
 }

@@ -8,6 +8,7 @@ use Rattle.std.specs.Str.{bytes_eq}
 use Rattle.std.proofs.lemmas.Fmt.{decimal_injective}
 use Rattle.std.proofs.lemmas.Slice.Eq.{bytes_eq-Decides}
 use Rattle.csp_record.specs.Record.{PlainPartyLog}
+use Rattle.csp_base.specs.Seat.{seat}
 use Rattle.csp_record.specs.Payloads.{took}
 use Rattle.csp_record.specs.declared.connections.Opening.{Opening}
 use Rattle.csp_scene.specs.Naming.{AreNamedApart}
@@ -110,8 +111,8 @@ module _ (nodes : List PlainNode) (parties : List PlainPartyLog) (apart : AreNam
     peers_first : HasPeersFirst nodes parties place number o peers.flow
     peers_first = first place number peers.own o peers.flow shown peers.own_is peers.peer_is
 
-    took_same : took_there parties place number o ≡ took number o.slot o.ordinal shown.log.entries
-    took_same = ap (λ party. took number o.slot o.ordinal (entries_of party)) shown.logged
+    took_same : took_there parties place number o ≡ took (seat number o.slot) o.ordinal shown.log.entries
+    took_same = ap (λ party. took (seat number o.slot) o.ordinal (entries_of party)) shown.logged
 
     -- one of the peer's flow
     module _ (p k : ℕ) (q : Opening) (there : IsShown nodes parties p k q) (of_flow : IsOfFlow node nth (told_here nodes parties p k q there)) where
@@ -134,13 +135,13 @@ module _ (nodes : List PlainNode) (parties : List PlainPartyLog) (apart : AreNam
       shown_of : IsShownOf nodes parties peers.flow k q
       shown_of = (subst (λ n. IsShown nodes parties n k q) place_is there, own.own_is ∙ ap Some number_is)
 
-      begins : AreFirstOf (took number o.slot o.ordinal shown.log.entries) (sent_there parties p k q)
+      begins : AreFirstOf (took (seat number o.slot) o.ordinal shown.log.entries) (sent_there parties p k q)
       begins =
-          subst (λ n. AreFirstOf (took number o.slot o.ordinal shown.log.entries) (sent_there parties n k q)) (sym place_is)
+          subst (λ n. AreFirstOf (took (seat number o.slot) o.ordinal shown.log.entries) (sent_there parties n k q)) (sym place_is)
           (subst (λ ps. AreFirstOf ps (sent_there parties peers.flow.0 k q)) took_same (peers_first.prefix k q shown_of))
 
       one_prefix : IsTrue (starts_with bytes_eq (told_here nodes parties p k q there).sent x_told.took)
-      one_prefix = texts_begin (took number o.slot o.ordinal shown.log.entries) (sent_there parties p k q) begins
+      one_prefix = texts_begin (took (seat number o.slot) o.ordinal shown.log.entries) (sent_there parties p k q) begins
 
     each_prefix : (ys : List ToldConnection) → AllByRecursion (IsToldOf nodes parties) ys → AllByRecursion (λ y. IsOfFlow node nth y → IsTrue (starts_with bytes_eq y.sent x_told.took)) ys
     each_prefix [] all = tt

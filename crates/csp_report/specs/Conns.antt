@@ -10,6 +10,7 @@ use Rattle.csp_log.specs.declared.event.Event.{Event}
 use Rattle.csp_scene.specs.Scene.{PlainNode}
 use Rattle.csp_record.specs.declared.connections.Opening.{Opening}
 use Rattle.csp_record.specs.Connections.{openings}
+use Rattle.csp_base.specs.Seat.{seat}
 use Rattle.csp_record.specs.Payloads.{sent, took}
 use Rattle.csp_report.specs.Blobs.{collected_lines}
 use Rattle.csp_report.specs.Lines.{Line, conn_words}
@@ -66,7 +67,7 @@ all_slots = 0 ∷ 1 ∷ 2 ∷ 3 ∷ []
 
 -- what the log of its router and its own log tell of the connections of the application with this number
 abbrev pub traffic_of : ℕ → List Entry → List Entry → Traffics
-traffic_of number router own = record { sent_on = λ slot ordinal. sent number slot ordinal router; took_on = λ slot ordinal. took number slot ordinal own; told = all_events own }
+traffic_of number router own = record { sent_on = λ slot ordinal. sent (seat number slot) ordinal router; took_on = λ slot ordinal. took (seat number slot) ordinal own; told = all_events own }
 
 -- the lines of all its connections, by these logs
 abbrev pub conn_lines : List PlainNode → List ℕ → List ℕ → ℕ → List Entry → List Entry → List Line

@@ -3,6 +3,7 @@ use Rattle.std.specs.Prelude.{ℕ, ◌≡◌, ◌<◌, ◌^◌, Some, List, [], 
 use Rattle.csp_base.specs.declared.limits.TheConstants.{SLOTS}
 use Rattle.csp_scene.specs.Scene.{PlainNode, PlainApp}
 use Rattle.csp_record.specs.Connections.{openings}
+use Rattle.csp_base.specs.Seat.{seat}
 use Rattle.csp_record.specs.Payloads.{sent, took}
 use Rattle.csp_record.specs.Record.{PlainPartyLog}
 use Rattle.csp_record.specs.declared.connections.Opening.{Opening}
@@ -32,11 +33,11 @@ AreNumbered nodes parties = (place number : ℕ) (x : Opening) → IsShown nodes
 
 -- what was sent and taken on it, by the logs of its router and of its application
 abbrev pub sent_there : List PlainPartyLog → ℕ → ℕ → Opening → List (List ℕ)
-sent_there parties place number x = sent number x.slot x.ordinal (entries_at parties (who.Router place))
+sent_there parties place number x = sent (seat number x.slot) x.ordinal (entries_at parties (who.Router place))
 
 -- what was taken on a connection, by its application's log
 abbrev pub took_there : List PlainPartyLog → ℕ → ℕ → Opening → List (List ℕ)
-took_there parties place number x = took number x.slot x.ordinal (entries_at parties (who.App place number))
+took_there parties place number x = took (seat number x.slot) x.ordinal (entries_at parties (who.App place number))
 
 -- these payloads are the first of those
 pub record AreFirstOf (some all : List (List ℕ)) : Type 0 where

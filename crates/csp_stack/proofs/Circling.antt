@@ -71,7 +71,7 @@ told_is f s time d past h e asked misses =
 
 passes_by : (f : Facts) (s : StateAt) (time cursor : ℕ) (d : Plan) (q : QueueId) (past : ℕ) → IsIdle (at_cursor s.state cursor) time → plan_of f (at_cursor s.state cursor) time ≡ d →
     (turn_of f (at_cursor s.state cursor) time d).asks ≡ op.Pop q → asked_by f (at_cursor s.state cursor) time d ≡ record s.state { cursor = past; doing = d } →
-    ((t : State) → (turn_of f t time d).told answer.Empty ≡ unchanged t) → IsSome (rules_of f q) → Passes f s time cursor q past
+    ((t : State) → (turn_of f t time d).told answer.Empty ≡ unchanged t) → IsSome (rules_of f q) → Passes f s time cursor (q, past)
 passes_by f s time cursor d q past h e pops asked misses used =
     let told = told_is f (at_cursor s.state cursor) time d past h e asked misses in
     record {
@@ -86,7 +86,7 @@ used_if true r e = refl
 used_if false r e = absurd cc
 
 passes_at : (f : Facts) (s : StateAt) (time cursor : ℕ) (x : Source) → IsIdle (at_cursor s.state cursor) time → plan_of f (at_cursor s.state cursor) time ≡ work_at (at_cursor s.state cursor) time x →
-    ((k : ℕ) → x ≡ source.App k → k < f.apps) → IfSome (look_at f x) (λ l. Passes f s time cursor l.0 l.1)
+    ((k : ℕ) → x ≡ source.App k → k < f.apps) → IfSome (look_at f x) (Passes f s time cursor)
 passes_at f s time cursor source.Inbox h e there = passes_by f s time cursor plan.Hear queue.Inbox (place_past f 0) h e refl refl (λ t. refl) refl
 passes_at f s time cursor (source.App k) h e there =
     passes_by f s time cursor (plan.Serve k) (queue.Up k) (place_past f (k + 1)) h e refl refl (λ t. refl) (used_if (nat_lt k f.apps) _ (lt-ltb _ _ (there k refl)))
@@ -98,7 +98,7 @@ works_at f s time None x e = absurd cc
 works_at f s time (Some k) x e = ap (λ (o : Option Source). work_at s time (unwrap_or o x)) (sym e)
 
 pub vain_look : (f : Facts) (s : StateAt) (time cursor : ℕ) (o : Option Source) → IsIdle s.state time → o ≡ option_map (source_at f) (place_with_work f (at_cursor s.state cursor) time) →
-    ((k : ℕ) → o ≡ Some (source.App k) → k < f.apps) → IfSome (option_and_then (look_at f) o) (λ l. Passes f s time cursor l.0 l.1)
+    ((k : ℕ) → o ≡ Some (source.App k) → k < f.apps) → IfSome (option_and_then (look_at f) o) (Passes f s time cursor)
 vain_look f s time cursor None h e there = tt
 vain_look f s time cursor (Some x) h e there =
     let idle = idle_from s.state time cursor h in
@@ -106,7 +106,7 @@ vain_look f s time cursor (Some x) h e there =
 
 -- the looks so far and one more
 pub one_more : (f : Facts) (s : StateAt) (time cursor : ℕ) (qs more : List QueueId) (q : QueueId) (past : ℕ) → LooksInto router_steps time (router_of f s) qs (router_from f s cursor) →
-    Passes f s time cursor q past → more ≡ qs ++ q ∷ [] → LooksInto router_steps time (router_of f s) more (router_from f s past)
+    Passes f s time cursor (q, past) → more ≡ qs ++ q ∷ [] → LooksInto router_steps time (router_of f s) more (router_from f s past)
 one_more f s time cursor qs more q past h p e = rw e (looks_on router_steps time (router_of f s) (router_from f s cursor) (router_from f s past) qs q h p.look p.missed)
 
 -- where the cursor is again what it was, the router is as it was

@@ -8,7 +8,7 @@ use Rattle.csp_deck.specs.Step.{times}
 use Rattle.csp_log.specs.declared.event.Event.{Event}
 use Rattle.csp_ports.specs.Counts.{AreFar}
 use Rattle.csp_ports.specs.Held.{held}
-use Rattle.csp_ports.specs.Keeps.{Keeps as PortsKeep}
+use Rattle.csp_ports.specs.Keeps.{Keeps as PortsKeep, at_hand}
 use Rattle.csp_ports.specs.PlainPorts.{PlainPorts}
 use Rattle.csp_rdp.specs.Counts.{IsFar}
 use Rattle.csp_rdp.specs.Machine.{PlainRdp}
@@ -129,7 +129,7 @@ kept_keeps ifaces s b = record {
 }
 
 -- the timers are tried
-pub timed_holds : (seen inside : StateAt) (p : PlainPorts) (after : List Content) (early : List Event) → inside ≡ seen → PortsKeep 0 inside.state.ports p inside.state.trash after [] →
+pub timed_holds : (seen inside : StateAt) (p : PlainPorts) (after : List Content) (early : List Event) → inside ≡ seen → PortsKeep 0 (at_hand inside.state.ports inside.state.trash) (at_hand p after) [] →
     (k : ℕ) → times k (holds (record inside.state { ports = p; trash = after; early = early })) ≡ times k (holds seen.state)
 timed_holds seen inside p after early same h k =
     let s = inside.state in
@@ -149,7 +149,7 @@ far_same n p x = let made = x.made in record {
 
 -- the ports make a step that counts one further at most, and let go what joins the trash
 pub ported_keeps : (ifaces more : ℕ) (s : State) (p : PlainPorts) (after : List Content) (came : List ℕ) → more ≤ 1 → length came ≤ 1 → p.conns.apps ≡ s.ports.conns.apps →
-    PortsKeep more s.ports p s.trash after came → Keeps ifaces s (record s { ports = p; trash = after }) came
+    PortsKeep more (at_hand s.ports s.trash) (at_hand p after) came → Keeps ifaces s (record s { ports = p; trash = after }) came
 ported_keeps ifaces more s p after came few one apps h = record {
   numbers = λ k.
       let old = holds_apart k s.trash s.out s.ports in
@@ -173,13 +173,13 @@ ported_keeps ifaces more s p after came few one apps h = record {
 
 -- the ports alone make a step
 pub ported_alone : (ifaces more : ℕ) (s : State) (p : PlainPorts) (came : List ℕ) → more ≤ 1 → length came ≤ 1 → p.conns.apps ≡ s.ports.conns.apps →
-    PortsKeep more s.ports p [] [] came → Keeps ifaces s (record s { ports = p }) came
+    PortsKeep more (at_hand s.ports []) (at_hand p []) came → Keeps ifaces s (record s { ports = p }) came
 ported_alone ifaces more s p came few one apps h =
-    let beside : PortsKeep more s.ports p s.trash s.trash came = record { numbers = λ k. let step = h.numbers k in omega (arith, step); size = let size = h.size in omega (arith, size); far = h.far } in
+    let beside : PortsKeep more (at_hand s.ports s.trash) (at_hand p s.trash) came = record { numbers = λ k. let step = h.numbers k in omega (arith, step); size = let size = h.size in omega (arith, size); far = h.far } in
     ported_keeps ifaces more s p s.trash came few one apps beside
 
 pub ported_seen : (seen inside : StateAt) (ifaces more : ℕ) (p : PlainPorts) (came : List ℕ) → inside ≡ seen → more ≤ 1 → length came ≤ 1 → p.conns.apps ≡ inside.state.ports.conns.apps →
-    PortsKeep more inside.state.ports p [] [] came → Keeps ifaces seen.state (record inside.state { ports = p }) came
+    PortsKeep more (at_hand inside.state.ports []) (at_hand p []) came → Keeps ifaces seen.state (record inside.state { ports = p }) came
 ported_seen seen inside ifaces more p came same few one apps h = rw (← same) (ported_alone ifaces more inside.state p came few one apps h)
 
 -- what was counted comes before another step
@@ -188,7 +188,7 @@ after_counts ifaces s t stats came k = record { numbers = k.numbers; room = k.ro
 
 -- and a packet joins the trash besides
 pub absorbing_keeps : (ifaces more : ℕ) (s : State) (p : PlainPorts) (after : List Content) (b : Content) → more ≤ 1 → p.conns.apps ≡ s.ports.conns.apps →
-    PortsKeep more s.ports p s.trash after [] → Keeps ifaces s (record s { ports = p; trash = after ++ b ∷ [] }) (b.number ∷ [])
+    PortsKeep more (at_hand s.ports s.trash) (at_hand p after) [] → Keeps ifaces s (record s { ports = p; trash = after ++ b ∷ [] }) (b.number ∷ [])
 absorbing_keeps ifaces more s p after b few apps h =
     let k = ported_keeps ifaces more s p after [] few (omega arith) apps h in
     record {
@@ -207,7 +207,7 @@ absorbing_keeps ifaces more s p after b few apps h =
     }
 
 -- a step of the ports that lets nothing go, and counts no further, comes before another step
-pub after_ports : (ifaces : ℕ) (s t : State) (p : PlainPorts) (came : List ℕ) → p.conns.apps ≡ s.ports.conns.apps → PortsKeep 0 s.ports p [] [] [] →
+pub after_ports : (ifaces : ℕ) (s t : State) (p : PlainPorts) (came : List ℕ) → p.conns.apps ≡ s.ports.conns.apps → PortsKeep 0 (at_hand s.ports []) (at_hand p []) [] →
     Keeps ifaces (record s { ports = p }) t came → Keeps ifaces s t came
 after_ports ifaces s t p came apps h k = record {
   numbers = λ n.

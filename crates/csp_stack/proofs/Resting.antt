@@ -1,5 +1,6 @@
 -- what asks and what was told is sound again
 use Rattle.std.proofs.Common.{◌≡◌, ℕ, ◌+◌, ◌<◌, ◌≤◌, List, [], ◌∷◌, length, Option, Some, None, IfSome, MatchOption, refl, ap, sym, subst, ◌∙◌, arith}
+use Rattle.csp_base.specs.declared.seat.Seat.{Seat}
 use Rattle.csp_buffer.specs.Content.{Content}
 use Rattle.csp_conn.specs.PlainConns.{IsThere}
 use Rattle.csp_deck.specs.Keeping.{numbers_of}
@@ -11,7 +12,7 @@ use Rattle.csp_log.specs.declared.shown.OpShown.TheVariants as op
 use Rattle.csp_log.specs.declared.shown.ItemShown.TheVariants as item
 use Rattle.csp_ports.specs.Counts.{AreFar}
 use Rattle.csp_ports.specs.Held.{held}
-use Rattle.csp_ports.specs.Keeps.{Keeps as PortsKeep}
+use Rattle.csp_ports.specs.Keeps.{Keeps as PortsKeep, at_hand}
 use Rattle.csp_ports.specs.PlainPorts.{PlainPorts}
 use Rattle.csp_stack.proofs.Keeping.{far_same, holds_apart, times_both}
 use Rattle.csp_log.specs.declared.event.Event.{Event}
@@ -37,7 +38,7 @@ finished_sound f s t ns h k can room = record {
 }
 
 -- it asks with what its ports hand over, if anything
-pub ports_ask : (f : Facts) (s : State) (p : PlainPorts) (cursor : ℕ) (d : Plan) (time : ℕ) (o : OpShown) (gone : List Content) → IsTimed f s → PortsKeep 0 s.ports p [] gone [] →
+pub ports_ask : (f : Facts) (s : State) (p : PlainPorts) (cursor : ℕ) (d : Plan) (time : ℕ) (o : OpShown) (gone : List Content) → IsTimed f s → PortsKeep 0 (at_hand s.ports []) (at_hand p gone) [] →
     p.conns.apps ≡ s.ports.conns.apps → op_numbers o ≡ numbers_of gone → HasPlace d (record s { ports = p; cursor = cursor; doing = d }) → IsWaiting d (record s { ports = p; cursor = cursor; doing = d }) time →
     kind_of_plan d ≡ kind_of o → Asks f s (record s { ports = p; cursor = cursor; doing = d }) time o
 ports_ask f s p cursor d time o gone h keeps apps handed place waits kind = record {
@@ -90,7 +91,7 @@ pub timed_then : (f : Facts) (s m t : State) (time : ℕ) (o : OpShown) → ((k 
 timed_then f s m t time o numbers far a = record { sound = a.sound; waits = a.waits; kind = a.kind; numbers = λ k. a.numbers k ∙ numbers k; far = λ n h. a.far n (far n h) }
 
 -- two steps of the ports
-pub ports_then : (p q r : PlainPorts) (gone : List Content) → PortsKeep 0 p q [] [] [] → PortsKeep 0 q r [] gone [] → PortsKeep 0 p r [] gone []
+pub ports_then : (p q r : PlainPorts) (gone : List Content) → PortsKeep 0 (at_hand p []) (at_hand q []) [] → PortsKeep 0 (at_hand q []) (at_hand r gone) [] → PortsKeep 0 (at_hand p []) (at_hand r gone) []
 ports_then p q r gone a b = record {
   numbers = λ k. let x = a.numbers k in let y = b.numbers k in omega (arith, x, y);
   size = let x = a.size in let y = b.size in omega (arith, x, y);
@@ -98,15 +99,15 @@ ports_then p q r gone a b = record {
 }
 
 -- a packet of a slot is handed over, once the ports have turned to the slot
-pub delivery_asks : (f : Facts) (inside seen : StateAt) (q p : PlainPorts) (cursor app slot time : ℕ) (b : Content) → inside ≡ seen → IsTimed f seen.state → IsClear seen.state → IsThere seen.state.ports.conns app slot
-    → PortsKeep 0 inside.state.ports q [] [] [] → q.conns.apps ≡ inside.state.ports.conns.apps → PortsKeep 0 q p [] (b ∷ []) [] → p.conns.apps ≡ q.conns.apps
-    → IsDelivering (record inside.state { ports = p }) app slot → Asks f seen.state (record inside.state { ports = p; cursor = cursor; doing = plan.Deliver app slot }) time (op.Push (queue.Down app) (item.Packet slot b))
-delivery_asks f inside seen q p cursor app slot time b e timed clear there turned same gone alike delivers =
-    subst (λ (x : StateAt). IsTimed f x.state → IsClear x.state → IsThere x.state.ports.conns app slot → Asks f x.state (record inside.state { ports = p; cursor = cursor; doing = plan.Deliver app slot }) time (op.Push (queue.Down app) (item.Packet slot b))) e
+pub delivery_asks : (f : Facts) (inside seen : StateAt) (q p : PlainPorts) (cursor : ℕ) (seat : Seat) (time : ℕ) (b : Content) → inside ≡ seen → IsTimed f seen.state → IsClear seen.state → IsThere seen.state.ports.conns seat
+    → PortsKeep 0 (at_hand inside.state.ports []) (at_hand q []) [] → q.conns.apps ≡ inside.state.ports.conns.apps → PortsKeep 0 (at_hand q []) (at_hand p (b ∷ [])) [] → p.conns.apps ≡ q.conns.apps
+    → IsDelivering (record inside.state { ports = p }) seat → Asks f seen.state (record inside.state { ports = p; cursor = cursor; doing = plan.Deliver seat }) time (op.Push (queue.Down seat.app) (item.Packet seat.slot b))
+delivery_asks f inside seen q p cursor seat time b e timed clear there turned same gone alike delivers =
+    subst (λ (x : StateAt). IsTimed f x.state → IsClear x.state → IsThere x.state.ports.conns seat → Asks f x.state (record inside.state { ports = p; cursor = cursor; doing = plan.Deliver seat }) time (op.Push (queue.Down seat.app) (item.Packet seat.slot b))) e
     (λ timed clear there.
-    ports_ask f inside.state p cursor (plan.Deliver app slot) time (op.Push (queue.Down app) (item.Packet slot b)) (b ∷ []) timed (ports_then inside.state.ports q p (b ∷ []) turned gone) (alike ∙ same) refl (
+    ports_ask f inside.state p cursor (plan.Deliver seat) time (op.Push (queue.Down seat.app) (item.Packet seat.slot b)) (b ∷ []) timed (ports_then inside.state.ports q p (b ∷ []) turned gone) (alike ∙ same) refl (
       record { trash = clear.trash; out = clear.out; early = clear.early },
-      record { of_node = subst (λ (n : ℕ). app < n) (sym (alike ∙ same)) there.of_node; of_app = there.of_app },
+      record { of_node = subst (λ (n : ℕ). seat.app < n) (sym (alike ∙ same)) there.of_node; of_app = there.of_app },
       record { is_open = delivers.is_open; is_taken = delivers.is_taken },
     )
     tt refl)

@@ -15,6 +15,7 @@ use Rattle.csp_stack.specs.Readings.{mark_of}
 use Rattle.csp_stack.specs.Router.{Facts}
 use Rattle.csp_stack.specs.Rules.{by_row, to_slot}
 use Rattle.std.proofs.lemmas.Bool.{lt-ltb}
+use Rattle.csp_base.specs.declared.seat.Seat.{Seat}
 
 carried_if : (there : Bool) (mark : ℕ) (b : Content) → there ≡ true → IsHop mark → IsCarriedIn (cond there (Some (rule.Lane lane.Out)) None) (item.Packet mark b)
 carried_if true mark b e h = h
@@ -28,8 +29,8 @@ slot_if true slot b e h = h
 slot_if false slot b e h = absurd cc
 
 -- what goes to a slot of an application can go
-pub to_slot_sendable : (f : Facts) (app slot : ℕ) (b : Content) → app < f.apps → slot < SLOTS → IsSendable f (Some (to_slot app slot b))
-to_slot_sendable f app slot b there h = slot_if (nat_lt app f.apps) slot b (lt-ltb _ _ there) h
+pub to_slot_sendable : (f : Facts) (seat : Seat) (b : Content) → seat.app < f.apps → seat.slot < SLOTS → IsSendable f (Some (to_slot seat b))
+to_slot_sendable f seat b there h = slot_if (nat_lt seat.app f.apps) seat.slot b (lt-ltb _ _ there) h
 
 reply_if : (there : Bool) (n : Note) → there ≡ true → IsReply n → IsCarriedIn (cond there (Some (rule.Lane lane.Down)) None) (item.Note n)
 reply_if true n e h = h

@@ -51,9 +51,9 @@ look_at f source.Jobs = None
 abbrev pub look_of : Facts → State → ℕ → Option (QueueId × ℕ)
 look_of f s time = option_and_then (look_at f) (option_map (source_at f) (place_with_work f s time))
 
--- a turn from this cursor on looks into this queue, which the router uses; where it is empty, the router is as it was, but for the cursor,
+-- a turn from this cursor on looks into a queue, which the router uses; where it is empty, the router is as it was, but for the cursor,
 -- which is past the queue
-pub record Passes (f : Facts) (s : StateAt) (time cursor : ℕ) (q : QueueId) (past : ℕ) : Type 0 where
-  pub look : IsLook router_steps time (router_from f s cursor) q
-  pub missed : state_missed router_steps time (router_from f s cursor) ≡ router_from f s past
-  pub used : IsSome (rules_of f q)
+pub record Passes (f : Facts) (s : StateAt) (time cursor : ℕ) (seen : QueueId × ℕ) : Type 0 where
+  pub look : IsLook router_steps time (router_from f s cursor) seen.0
+  pub missed : state_missed router_steps time (router_from f s cursor) ≡ router_from f s seen.1
+  pub used : IsSome (rules_of f seen.0)

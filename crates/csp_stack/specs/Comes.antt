@@ -39,11 +39,12 @@ pub record ComesTo (old new : StateAt) (before after : List Event) (told : Told)
   pub region : new.region ≡ old.region
   pub events : after ≡ before ++ told.events
 
--- what a ruling comes to: without a packet that is left it has decided, whatever the next rules say; else nothing changed, and they decide
-abbrev pub Rules : Option Packet → StateAt → StateAt → List Event → List Event → Ruling → Type 0
-Rules None old new before after ruling = (next : Arrival → Told) → ComesTo old new before after (ruling >>= next)
-Rules (Some p) old new before after ruling =
-    ((next : Arrival → Told) → (ruling >>= next) ≡ next (arrival_of p)) × (p.buffer.region ≡ old.region) × (new ≡ old) × (after ≡ before)
+-- what a ruling comes to, by the state and the report before and after it: without a packet that is left it has decided, whatever the next
+-- rules say; else nothing changed, and they decide
+abbrev pub Rules : Option Packet → (old new : StateAt × List Event) → Ruling → Type 0
+Rules None old new ruling = (next : Arrival → Told) → ComesTo old.0 new.0 old.1 new.1 (ruling >>= next)
+Rules (Some p) old new ruling =
+    ((next : Arrival → Told) → (ruling >>= next) ≡ next (arrival_of p)) × (p.buffer.region ≡ old.0.region) × (new.0 ≡ old.0) × (new.1 ≡ old.1)
 
 -- the rules that are left to a packet: the sixth; from the fifth on; from the fourth on
 abbrev pub heard_elsewhere : Facts → State → ℕ → Arrival → Told

@@ -24,11 +24,7 @@ came_in s mark b = counting (counting s mark Received 1) mark ReceivedBytes (len
 -- the counts once a packet with so many bytes of payload was pushed to a queue: to an `Out` it counts for the interface
 abbrev pub sent_to : QueueId → ℕ → List Stats → List Stats
 sent_to (queue.Out iface) bytes stats = counted (counted stats iface Sent 1) iface SentBytes bytes
-sent_to queue.Inbox bytes stats = stats
-sent_to (queue.Up app) bytes stats = stats
-sent_to (queue.Down app) bytes stats = stats
-sent_to (queue.Tx iface) bytes stats = stats
-sent_to (queue.Rx iface) bytes stats = stats
+sent_to _ bytes stats = stats
 
 -- a packet of so many bytes went out by this queue: it is counted
 abbrev pub went_out : State → QueueId → ℕ → State
@@ -37,11 +33,7 @@ went_out s queue bytes = with_stats s (sent_to queue bytes s.services.stats)
 -- the counts once a queue was full: an `Out` that was counts for its interface
 abbrev pub refused_by : QueueId → List Stats → List Stats
 refused_by (queue.Out iface) stats = counted stats iface SendErrors 1
-refused_by queue.Inbox stats = stats
-refused_by (queue.Up app) stats = stats
-refused_by (queue.Down app) stats = stats
-refused_by (queue.Tx iface) stats = stats
-refused_by (queue.Rx iface) stats = stats
+refused_by _ stats = stats
 
 -- a packet found this queue full: it is counted
 abbrev pub was_full : State → QueueId → State

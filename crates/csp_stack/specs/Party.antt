@@ -13,6 +13,7 @@ use Rattle.csp_log.specs.declared.shown.ItemShown.{ItemShown}
 use Rattle.csp_log.specs.declared.shown.ItemShown.TheVariants as item
 use Rattle.csp_log.specs.declared.shown.OpShown.{OpShown}
 use Rattle.csp_route.specs.Routes.{IsWithin}
+use Rattle.csp_base.specs.declared.seat.Seat.{Seat}
 use Rattle.csp_conn.specs.PlainConns.{IsThere}
 use Rattle.csp_ports.specs.Counts.{greatest}
 use Rattle.csp_ports.specs.Held.{held}
@@ -54,9 +55,9 @@ kind_of_plan (plan.Push queue _) = pushing queue
 kind_of_plan plan.Hear = popping queue.Inbox
 kind_of_plan (plan.Serve k) = popping (queue.Up k)
 kind_of_plan (plan.Reply k) = pushing (queue.Down k)
-kind_of_plan (plan.Tell k _) = pushing (queue.Down k)
-kind_of_plan (plan.Deliver k _) = pushing (queue.Down k)
-kind_of_plan (plan.Make _ _ _) = taking
+kind_of_plan (plan.Tell seat) = pushing (queue.Down seat.app)
+kind_of_plan (plan.Deliver seat) = pushing (queue.Down seat.app)
+kind_of_plan (plan.Make _ _) = taking
 
 -- what a router waits for
 abbrev pub awaits_of : Router → Kind
@@ -86,9 +87,9 @@ pub record IsClear (s : State) : Type 0 where
   pub early : s.early ≡ []
 
 -- the connection on a slot is open, and the packet that it is to deliver was taken out
-pub record IsDelivering (s : State) (app slot : ℕ) : Type 0 where
-  pub is_open : (machine_at s.ports app slot).state ≡ Open
-  pub is_taken : is_kept (machine_at s.ports app slot).recv ((machine_at s.ports app slot).recv.cur + 1) ≡ false
+pub record IsDelivering (s : State) (seat : Seat) : Type 0 where
+  pub is_open : (machine_at s.ports seat).state ≡ Open
+  pub is_taken : is_kept (machine_at s.ports seat).recv ((machine_at s.ports seat).recv.cur + 1) ≡ false
 
 -- what came back has its place: a buffer in the trash, a packet where nothing else is, or with the connection that it was taken from; and an
 -- answer to an application is owed alone, as a packet of it waits for room alone
@@ -99,9 +100,9 @@ HasPlace (plan.Push _ _) s = IsClear s
 HasPlace plan.Hear s = IsClear s
 HasPlace (plan.Serve k) s = IsClear s × (waiting k s.ports.owed ≡ 0) × (stalled_at s.ports k ≡ None)
 HasPlace (plan.Reply _) s = IsClear s
-HasPlace (plan.Tell k slot) s = IsClear s × IsThere s.ports.conns k slot
-HasPlace (plan.Deliver k slot) s = IsClear s × IsThere s.ports.conns k slot × IsDelivering s k slot
-HasPlace (plan.Make k slot _) s = IsClear s × IsThere s.ports.conns k slot
+HasPlace (plan.Tell seat) s = IsClear s × IsThere s.ports.conns seat
+HasPlace (plan.Deliver seat) s = IsClear s × IsThere s.ports.conns seat × IsDelivering s seat
+HasPlace (plan.Make seat _) s = IsClear s × IsThere s.ports.conns seat
 
 -- a packet that waits for its buffer is the one that its connection owes at this time
 abbrev pub IsWaiting : Plan → State → ℕ → Type 0
@@ -111,9 +112,9 @@ IsWaiting (plan.Push _ _) s time = ⊤
 IsWaiting plan.Hear s time = ⊤
 IsWaiting (plan.Serve _) s time = ⊤
 IsWaiting (plan.Reply _) s time = ⊤
-IsWaiting (plan.Tell _ _) s time = ⊤
-IsWaiting (plan.Deliver _ _) s time = ⊤
-IsWaiting (plan.Make k slot j) s time = (job_of time (machine_at s.ports k slot) ≡ Some j) × (j ≢ Deliver)
+IsWaiting (plan.Tell _) s time = ⊤
+IsWaiting (plan.Deliver _) s time = ⊤
+IsWaiting (plan.Make seat j) s time = (job_of time (machine_at s.ports seat) ≡ Some j) × (j ≢ Deliver)
 
 -- the times at which it may be told
 abbrev pub waits_of : Router → ℕ → Type 0
@@ -154,6 +155,6 @@ Awaits f (plan.Push _ _) a = buffer_in a ≡ None
 Awaits f plan.Hear a = buffer_in a ≡ None
 Awaits f (plan.Serve k) a = (buffer_in a ≡ None) × IfSome (item_in a) (IsFrom f k)
 Awaits f (plan.Reply _) a = buffer_in a ≡ None
-Awaits f (plan.Tell _ _) a = buffer_in a ≡ None
-Awaits f (plan.Deliver _ _) a = buffer_in a ≡ None
-Awaits f (plan.Make _ _ _) a = (item_in a ≡ None) × IfSome (buffer_in a) IsCleared
+Awaits f (plan.Tell _) a = buffer_in a ≡ None
+Awaits f (plan.Deliver _) a = buffer_in a ≡ None
+Awaits f (plan.Make _ _) a = (item_in a ≡ None) × IfSome (buffer_in a) IsCleared

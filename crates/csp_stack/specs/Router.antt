@@ -9,7 +9,7 @@ use Rattle.csp_service.specs.Facts.{PlainServices}
 use Rattle.csp_log.specs.declared.event.Event.{Event}
 use Rattle.csp_ports.specs.Held.{emptied, held}
 use Rattle.csp_ports.specs.PlainPorts.{PlainPorts}
-use Rattle.csp_ports.specs.declared.origin.Origin.{Origin}
+use Rattle.csp_ports.specs.declared.flows.OwnFlows.{OwnFlows}
 use Rattle.csp_rdp_header.specs.declared.options.Options.{Options}
 use Rattle.csp_stack.specs.declared.plan.Plan.{Plan}
 use Rattle.csp_stack.specs.declared.plan.Plan.TheVariants.{Rest}
@@ -33,8 +33,8 @@ pub record Leaving : Type 0 where
   pub buffer : Content
 
 -- what its reliable connections begin with
-abbrev pub origin_of : Facts → Origin
-origin_of f = record { node = f.node; seed = f.seed; options = f.options }
+abbrev pub flows_of : Facts → OwnFlows
+flows_of f = record { node = f.node; seed = f.seed; options = f.options }
 
 -- what turns change: the routing table, the node's ports, what its services keep, the buffers that are to go back to the pool, the packet
 -- that is to go out, what the timers of this turn reported, the source with which the next look for work begins, and what is awaited
@@ -52,6 +52,10 @@ pub record State : Type 0 where
 pub record Router : Type 0 where
   pub facts : Facts
   pub state : State
+
+-- the router of these facts in this state
+abbrev pub router : Facts → State → Router
+router f s = record { facts = f; state = s }
 
 -- and with the region that all its buffers are of
 pub record StateAt : Type 0 where

@@ -1,8 +1,10 @@
 -- what a node does with a packet
 use Rattle.std.specs.Prelude.{ℕ, ◌==◌, ◌||◌, not, if◌then◌else◌, Bool, true, false, List, Option, None, Some, Result, Ok, Err}
 use Rattle.std.specs.Int.RustNames.{bit_and}
+use Rattle.csp_base.specs.Seat.{seat}
+use Rattle.csp_base.specs.declared.seat.Seat.{Seat}
 use Rattle.csp_buffer.specs.Content.{Content}
-use Rattle.csp_conn.specs.Opening.{first_free, found}
+use Rattle.csp_conn.specs.Opening.{found, free_seat}
 use Rattle.csp_conn.specs.PlainConns.{slot_at}
 use Rattle.csp_conn.specs.Slots.{between}
 use Rattle.csp_conn.specs.declared.slot.Connection.{Connection}
@@ -44,7 +46,7 @@ use Rattle.csp_rdp_header.specs.declared.head.RdpHead.{RdpHead}
 use Rattle.csp_rdp_header.specs.declared.head.TheConstants.{ACK, RST, SYN}
 use Rattle.csp_rdp_header.specs.declared.options.Options.{Options}
 use Rattle.csp_stack.specs.Readings.{is_checked, is_here, is_secured, lacks, mark_of}
-use Rattle.csp_stack.specs.Router.{Facts, Leaving, State, origin_of}
+use Rattle.csp_stack.specs.Router.{Facts, Leaving, Router, State, flows_of, router}
 use Rattle.csp_stack.specs.Sending.{headed}
 use Rattle.csp_stack.specs.Serving.{facts_of, reply_in, with_facts}
 use Rattle.csp_stack.specs.Told.{Told, absorbed, unchanged, discarded, leaving, ported, reporting, spent, with_ports}
@@ -126,17 +128,17 @@ abbrev pub without_checksum : State → Arrival → Ruling
 without_checksum s p = if is_checked p.head then with_payload (payload_of p.buffer.payload) s p else Left p
 
 -- a packet goes to the application that has its connection, marked with the slot
-abbrev pub to_slot : ℕ → ℕ → Content → Leaving
-to_slot app slot b = record { queue = queue.Down app; mark = slot; buffer = b }
+abbrev pub to_slot : Seat → Content → Leaving
+to_slot seat b = record { queue = queue.Down seat.app; mark = seat.slot; buffer = b }
 
 -- a packet of the reliable transport goes to the machine of its connection, without its head; one that is shorter than a head is Malformed
-abbrev pub to_machine : Option (List ℕ × RdpHead) → State → ℕ → ℕ → ℕ → Arrival → Told
-to_machine None s app slot time p = discarded s why.Malformed p.buffer
-to_machine (Some read) s app slot time p = ported s (handing s.ports app slot read.1 (record p.buffer { payload = read.0 }) time)
+abbrev pub to_machine : Option (List ℕ × RdpHead) → State → Seat → (time : ℕ) → Arrival → Told
+to_machine None s seat time p = discarded s why.Malformed p.buffer
+to_machine (Some read) s seat time p = ported s (handing s.ports seat read.1 (record p.buffer { payload = read.0 }) time)
 
 -- a packet of a slot: to the machine of a reliable connection, or to the application
-abbrev pub to_connection : State → ℕ → ℕ → ℕ → Arrival → Told
-to_connection s app slot time p = if is_reliable p.head.flags.0 then to_machine (parted p.buffer.payload) s app slot time p else leaving s (to_slot app slot p.buffer)
+abbrev pub to_connection : State → Seat → (time : ℕ) → Arrival → Told
+to_connection s seat time p = if is_reliable p.head.flags.0 then to_machine (parted p.buffer.payload) s seat time p else leaving s (to_slot seat p.buffer)
 
 -- one is of the reliable transport, and the other is not
 abbrev pub differs : (one other : Bool) → Bool
@@ -144,8 +146,8 @@ differs true other = not other
 differs false other = other
 
 -- a packet is of another transport than the connection on a slot
-abbrev pub is_mixed : State → (at : ℕ × ℕ) → Arrival → Bool
-is_mixed s at p = differs (is_reliable p.head.flags.0) (is_reliable (terms_at s.ports at.0 at.1).flags)
+abbrev pub is_mixed : State → Seat → Arrival → Bool
+is_mixed s seat p = differs (is_reliable p.head.flags.0) (is_reliable (terms_at s.ports seat).flags)
 
 -- who bound the port that a packet has come to
 abbrev pub owner_for : State → Arrival → Option (ℕ × ℕ)
@@ -156,39 +158,39 @@ abbrev pub is_lacking : State → Arrival → Bool
 is_lacking s p = lacks (owner_for s p) p.head
 
 -- a packet of a connection: of another transport it is Mixed, and without a flag that its own port needs Required; else it is the connection's
-abbrev pub at_connection : (at : ℕ × ℕ) → State → ℕ → Arrival → Told
-at_connection at s time p =
-    if is_mixed s at p then discarded s why.Mixed p.buffer
+abbrev pub at_connection : Seat → State → (time : ℕ) → Arrival → Told
+at_connection seat s time p =
+    if is_mixed s seat p then discarded s why.Mixed p.buffer
     else if is_lacking s p then discarded s why.Required p.buffer
-    else to_connection s at.0 at.1 time p
+    else to_connection s seat time p
 
 -- a packet is its connection's, where there is one
-abbrev pub by_connection : (at : Option (ℕ × ℕ)) → State → ℕ → Arrival → Ruling
+abbrev pub by_connection : Option Seat → State → (time : ℕ) → Arrival → Ruling
 by_connection None s time p = Left p
-by_connection (Some at) s time p = Decided (at_connection at s time p)
+by_connection (Some seat) s time p = Decided (at_connection seat s time p)
 
 -- the connection of a packet that has come: with the node and the port that it came from, by the port that it came to
 abbrev pub connection_of : Header → Connection
 connection_of h = between h.src h.sport h.dport
 
--- the slot whose connection a packet is of
-abbrev pub slot_of : State → Arrival → Option (ℕ × ℕ)
-slot_of s p = found s.ports.conns (connection_of p.head)
+-- the seat whose connection a packet is of
+abbrev pub seat_for : State → Arrival → Option Seat
+seat_for s p = found s.ports.conns (connection_of p.head)
 
 -- 4. a packet of a connection in use is Mixed, is Required, or goes to its connection
 abbrev pub of_no_connection : State → ℕ → Arrival → Ruling
-of_no_connection s time p = by_connection (slot_of s p) s time p
+of_no_connection s time p = by_connection (seat_for s p) s time p
 
 -- the flags of a packet that those are for which its connection sends: a checksum, the reliable transport
 abbrev pub answer_flags : Header → ℕ
 answer_flags h = bit_and h.flags.0 0x03
 
 -- a packet opens a connection in the least free slot of an application, and goes there; where all are in use it is NoSlot
-abbrev pub accepting : (slot : Option ℕ) → State → ℕ → Arrival → Told
-accepting None s app p = discarded s why.NoSlot p.buffer
-accepting (Some slot) s app p =
-    reporting (event.Opened app slot None None)
-    (leaving (with_ports s (accepted s.ports app slot (connection_of p.head) p.head.prio (answer_flags p.head))) (to_slot app slot p.buffer))
+abbrev pub accepting : Option Seat → State → Arrival → Told
+accepting None s p = discarded s why.NoSlot p.buffer
+accepting (Some seat) s p =
+    reporting (event.Opened seat.app seat.slot None None)
+    (leaving (with_ports s (accepted s.ports seat (connection_of p.head) p.head.prio (answer_flags p.head))) (to_slot seat p.buffer))
 
 -- a packet asks for a reliable connection where it is a SYN, neither ACK nor RST, with options that are each in its range. A packet that
 -- is shorter than a head is Malformed, another one than a SYN is NoConn, and one with other options is Malformed
@@ -212,17 +214,17 @@ abbrev pub invitation_of : Content → Result Invitation Discard
 invitation_of b = invitation_in (parted b.payload) b.trace.tag
 
 -- it opens one in the least free slot of an application; where all are in use it is NoSlot
-abbrev pub inviting : Result Invitation Discard → (slot : Option ℕ) → Facts → State → ℕ → ℕ → Arrival → Told
-inviting (Err reason) slot f s app time p = discarded s reason p.buffer
-inviting (Ok i) None f s app time p = discarded s why.NoSlot p.buffer
-inviting (Ok i) (Some slot) f s app time p =
-    absorbed p.buffer (ported s (invited (origin_of f) s.ports app slot (connection_of p.head) p.head.prio (answer_flags p.head) i time))
+abbrev pub inviting : Result Invitation Discard → Option Seat → Router → (time : ℕ) → Arrival → Told
+inviting (Err reason) free r time p = discarded r.state reason p.buffer
+inviting (Ok i) None r time p = discarded r.state why.NoSlot p.buffer
+inviting (Ok i) (Some seat) r time p =
+    absorbed p.buffer (ported r.state (invited (flows_of r.facts) i seat time (accepted r.state.ports seat (connection_of p.head) p.head.prio (answer_flags p.head))))
 
 -- a packet that may come to a port asks for a reliable connection of the port's application, or opens a plain one
 abbrev pub opening : (app : ℕ) → Facts → State → ℕ → Arrival → Told
 opening app f s time p =
-    if is_reliable p.head.flags.0 then inviting (invitation_of p.buffer) (first_free s.ports.conns app) f s app time p
-    else accepting (first_free s.ports.conns app) s app p
+    if is_reliable p.head.flags.0 then inviting (invitation_of p.buffer) (free_seat s.ports.conns app) (router f s) time p
+    else accepting (free_seat s.ports.conns app) s p
 
 -- a packet to a bound port: without a flag that the port needs it is Required; else it may open a connection
 abbrev pub by_socket : (owner : Option (ℕ × ℕ)) → Facts → State → ℕ → Arrival → Ruling
@@ -273,30 +275,34 @@ header_for f c t = record { prio = t.prio; src = f.addr; dst = c.peer; dport = c
 abbrev pub addressed : Facts → Connection → Terms → Content → Content
 addressed f c t b = headed (header_for f c t) b
 
--- a packet for a slot is sent on the slot's connection: on a plain one at once, and to a reliable one it is handed over; without one it is NoConn
-abbrev pub on_connection : (is_reliable : Bool) → Connection → Facts → State → ℕ → ℕ → ℕ → Content → Told
-on_connection false c f s app number time b =
-    reporting (event.Sent number (terms_at s.ports app number).ordinal) (sent f s (addressed f c (terms_at s.ports app number) b))
-on_connection true c f s app number time b = ported s (submitting s.ports app number b time)
+-- a packet goes out on the plain connection of a slot, which is reported
+abbrev pub sent_on : Connection → Router → Seat → Content → Told
+sent_on c r seat b =
+    reporting (event.Sent seat.slot (terms_at r.state.ports seat).ordinal) (sent r.facts r.state (addressed r.facts c (terms_at r.state.ports seat) b))
 
--- an application's packet goes on the connection in its slot, and is discarded where there is none
-abbrev pub by_slot : Slot → Facts → State → ℕ → ℕ → ℕ → Content → Told
-by_slot slot.Free f s app number time b = discarded s why.NoConn b
-by_slot slot.Held f s app number time b = discarded s why.NoConn b
-by_slot (slot.Open c) f s app number time b = on_connection (is_reliable (terms_at s.ports app number).flags) c f s app number time b
+-- a packet for a slot is sent on the slot's connection: on a plain one at once, and to a reliable one it is handed over
+abbrev pub on_connection : Connection → Router → Seat → (time : ℕ) → Content → Told
+on_connection c r seat time b =
+    if is_reliable (terms_at r.state.ports seat).flags then ported r.state (submitting r.state.ports seat b time) else sent_on c r seat b
+
+-- an application's packet goes on the connection in its slot; without one it is NoConn
+abbrev pub by_slot : Slot → Router → Seat → (time : ℕ) → Content → Told
+by_slot slot.Free r seat time b = discarded r.state why.NoConn b
+by_slot slot.Held r seat time b = discarded r.state why.NoConn b
+by_slot (slot.Open c) r seat time b = on_connection c r seat time b
 
 -- an unmarked packet is sent as it is, and one for a slot by its connection
-abbrev pub by_mark : (is_unmarked : Bool) → Facts → State → ℕ → ℕ → ℕ → Content → Told
-by_mark true f s app mark time b = sent f s b
-by_mark false f s app mark time b = by_slot (slot_at s.ports.conns app mark) f s app mark time b
+abbrev pub by_mark : (is_unmarked : Bool) → Router → Seat → (time : ℕ) → Content → Told
+by_mark true r seat time b = sent r.facts r.state b
+by_mark false r seat time b = by_slot (slot_at r.state.ports.conns seat) r seat time b
 
 -- a request is answered; the router's own answers are no requests
 abbrev pub requested : Facts → State → ℕ → ℕ → Note → Told
 requested f s app time (note.Bind port need) = unchanged (with_ports s (bind s.ports app port need))
 requested f s app time (note.Connect slot dest port prio flags from) =
-    let r : Request = record { slot = slot; dest = dest; port = port; prio = prio; flags = flags; from = from } in
-    ported s (connect (origin_of f) s.ports app r time)
-requested f s app time (note.Close slot) = ported s (close s.ports app slot time)
+    let r : Request = record { seat = seat app slot; dest = dest; port = port; prio = prio; flags = flags; from = from } in
+    ported s (connect (flows_of f) s.ports r time)
+requested f s app time (note.Close slot) = ported s (close s.ports (seat app slot) time)
 requested f s app time note.Bound = unchanged s
 requested f s app time (note.Connected slot) = unchanged s
 requested f s app time (note.Refused reason) = unchanged s
@@ -305,15 +311,16 @@ requested f s app time (note.Down slot) = unchanged s
 
 -- what becomes of an item of an application; a frame is none of what an application sends
 abbrev pub served : Facts → State → ℕ → (app : ℕ) → ItemShown → Told
-served f s time app (item.Packet mark b) = by_mark (mark == UNMARKED) f s app mark time b
+served f s time app (item.Packet mark b) = by_mark (mark == UNMARKED) (router f s) (seat app mark) time b
 served f s time app (item.Note request) = requested f s app time request
 served f s time app (item.Frame _) = unchanged s
 
 -- ---- from the machine of a connection
 
 -- a packet that a slot's connection owes is made in a buffer, and sent. Where the slot has no connection none is owed: the buffer joins the trash
-abbrev pub made_on : Slot → Job → Facts → State → ℕ → ℕ → ℕ → Content → Told
-made_on slot.Free j f s app number time b = absorbed b (unchanged s)
-made_on slot.Held j f s app number time b = absorbed b (unchanged s)
-made_on (slot.Open c) j f s app number time b =
-    sent f (with_ports s (making j time app number s.ports)) (addressed f c (terms_at s.ports app number) (made_in j time app number b s.ports))
+abbrev pub made_on : Slot → (owed : Seat × Job) → Router → (time : ℕ) → Content → Told
+made_on slot.Free owed r time b = absorbed b (unchanged r.state)
+made_on slot.Held owed r time b = absorbed b (unchanged r.state)
+made_on (slot.Open c) owed r time b =
+    sent r.facts (with_ports r.state (making owed.1 time owed.0 r.state.ports))
+    (addressed r.facts c (terms_at r.state.ports owed.0) (made_in owed.1 time owed.0 b r.state.ports))

@@ -1,6 +1,7 @@
 -- the sources of work, and the look for one that has some
 use Rattle.std.specs.Prelude.{ℕ, ◌+◌, ◌-◌, ◌==◌, ◌&&◌, not, Bool, true, false, cond, nat_le, List, [], ◌∷◌, ◌++◌, Option, None, Some, find, is_some}
 use Rattle.std.specs.List.{range_with_len}
+use Rattle.csp_base.specs.declared.seat.Seat.{Seat}
 use Rattle.csp_ports.specs.PlainPorts.{stalled_at, waiting}
 use Rattle.csp_ports.specs.Tasks.{next_task}
 use Rattle.csp_ports.specs.declared.owed.Owed.{Owed}
@@ -18,7 +19,7 @@ abbrev pub source_at : Facts → ℕ → Source
 source_at f k = cond (k == 0) source.Inbox (cond (nat_le k f.apps) (source.App (k - 1)) source.Jobs)
 
 -- there are jobs where an answer is owed, or a connection has a task
-abbrev pub has_jobs : List Owed → Option (ℕ × ℕ × Task) → Bool
+abbrev pub has_jobs : List Owed → Option (Seat × Task) → Bool
 has_jobs (_ ∷ _) task = true
 has_jobs [] (Some _) = true
 has_jobs [] None = false

@@ -1,6 +1,7 @@
 -- the turns of a router: what one is, what is asked in it, and what the answer comes to
 use Rattle.std.specs.Prelude.{ℕ, ◌+◌, cond, List, [], ◌∷◌, ◌++◌, drop, length, Option, None, Some}
 use Rattle.csp_buffer.specs.Content.{Content}
+use Rattle.csp_base.specs.declared.seat.Seat.{Seat}
 use Rattle.csp_log.specs.declared.event.Discard.TheVariants as why
 use Rattle.csp_log.specs.declared.places.QueueId.{QueueId}
 use Rattle.csp_log.specs.declared.places.QueueId.TheVariants as queue
@@ -23,7 +24,7 @@ use Rattle.csp_buffer.specs.PlainBuffer.{PlainBuffer}
 use Rattle.csp_conn.specs.PlainConns.{slot_at}
 use Rattle.csp_rdp.specs.Jobs.{delivery}
 use Rattle.csp_stack.specs.Readings.{buffer_in, is_pushed, item_in}
-use Rattle.csp_stack.specs.Router.{Facts, Leaving, State, at_rest}
+use Rattle.csp_stack.specs.Router.{Facts, Leaving, State, at_rest, router}
 use Rattle.csp_stack.specs.Rules.{Arrival, packet_in, heard, made_on, served}
 use Rattle.csp_stack.specs.Sources.{source_at, place_with_work, place_past}
 use Rattle.csp_stack.specs.Told.{Told, after_all, discarded, unchanged, kept, ported, with_ports}
@@ -35,15 +36,15 @@ use Rattle.csp_stack.specs.declared.sources.Source.TheVariants as source
 -- ---- which turn it is
 
 -- the task of a connection
-abbrev pub plan_for : ℕ → ℕ → Task → Plan
-plan_for app slot task.Tell = plan.Tell app slot
-plan_for app slot task.Deliver = plan.Deliver app slot
-plan_for app slot (task.Make j) = plan.Make app slot j
+abbrev pub plan_for : Seat → Task → Plan
+plan_for seat task.Tell = plan.Tell seat
+plan_for seat task.Deliver = plan.Deliver seat
+plan_for seat (task.Make j) = plan.Make seat j
 
 -- the jobs: the answer that came to be owed first is pushed; where none is owed the next connection with a task comes to it
-abbrev pub jobs_by : List Owed → Option (ℕ × ℕ × Task) → Plan
+abbrev pub jobs_by : List Owed → Option (Seat × Task) → Plan
 jobs_by (o ∷ _) t = plan.Reply o.app
-jobs_by [] (Some t) = plan_for t.0 t.1 t.2
+jobs_by [] (Some t) = plan_for t.0 t.1
 jobs_by [] None = plan.Rest
 
 -- the work at a source
@@ -94,21 +95,21 @@ replying [] = op.Nothing
 replying (o ∷ _) = op.Push (queue.Down o.app) (item.Note o.note)
 
 -- the push of a packet that a connection delivers
-abbrev pub delivering : Option PlainBuffer → ℕ → ℕ → OpShown
-delivering None app slot = op.Nothing
-delivering (Some b) app slot = op.Push (queue.Down app) (item.Packet slot b.picture)
+abbrev pub delivering : Option PlainBuffer → Seat → OpShown
+delivering None seat = op.Nothing
+delivering (Some b) seat = op.Push (queue.Down seat.app) (item.Packet seat.slot b.picture)
 
 -- the cursor past the jobs, and a slot that comes to its task
 abbrev pub at_jobs : Facts → State → State
 at_jobs f s = record s { cursor = place_past f (f.apps + 1) }
 
 -- the state once the circle has come past a slot with a task
-abbrev pub at_task : Facts → State → ℕ → ℕ → State
-at_task f s app slot = with_ports (at_jobs f s) (turned app slot s.ports)
+abbrev pub at_task : Facts → State → Seat → State
+at_task f s seat = with_ports (at_jobs f s) (turned seat s.ports)
 
 -- and once the packet that it delivers was taken out
-abbrev pub at_delivery : Facts → State → ℕ → ℕ → State
-at_delivery f s app slot = with_ports (at_jobs f s) (without_packet app slot (turned app slot s.ports))
+abbrev pub at_delivery : Facts → State → Seat → State
+at_delivery f s seat = with_ports (at_jobs f s) (without_packet seat (turned seat s.ports))
 
 -- what an answer brings comes to this; one that brings nothing leaves the state as it was
 abbrev pub brought : {X : Type 0} → State → (X → Told) → Option X → Told
@@ -120,8 +121,8 @@ abbrev pub no_room : State → Option Arrival → Told
 no_room s back = brought s (λ p. discarded s why.Full p.buffer) back
 
 -- a packet that comes back from a full lane is kept by its connection again
-abbrev pub kept_back : State → ℕ → ℕ → Option Arrival → Told
-kept_back s app slot back = brought s (λ p. unchanged (with_ports s (kept_again app slot p.buffer s.ports))) back
+abbrev pub kept_back : State → Seat → Option Arrival → Told
+kept_back s seat back = brought s (λ p. unchanged (with_ports s (kept_again seat p.buffer s.ports))) back
 
 -- ---- the five forms of a turn
 
@@ -168,11 +169,11 @@ turn_of f s time (plan.Serve k) = pops (queue.Up k) (record s { cursor = place_p
 -- an answer to an application is pushed; where its lane has no room it stays owed
 turn_of f s time (plan.Reply _) = pushes (replying s.ports.owed) (at_jobs f s) (ported s (answered s.ports)) (no_room s)
 -- a Down note is pushed; where its lane has no room it stays owed
-turn_of f s time (plan.Tell app slot) = pushes (op.Push (queue.Down app) (item.Note (note.Down slot))) (at_task f s app slot) (unchanged (with_ports s (told_down app slot s.ports))) (no_room s)
+turn_of f s time (plan.Tell seat) = pushes (op.Push (queue.Down seat.app) (item.Note (note.Down seat.slot))) (at_task f s seat) (unchanged (with_ports s (told_down seat s.ports))) (no_room s)
 -- a packet is delivered; where its lane has no room the connection keeps it again
-turn_of f s time (plan.Deliver app slot) = pushes (delivering (delivery (machine_at s.ports app slot)) app slot) (at_delivery f s app slot) (ported s (delivered time app slot s.ports)) (kept_back s app slot)
+turn_of f s time (plan.Deliver seat) = pushes (delivering (delivery (machine_at s.ports seat)) seat) (at_delivery f s seat) (ported s (delivered time seat s.ports)) (kept_back s seat)
 -- a buffer is taken for a packet that a connection owes; without one the packet stays owed
-turn_of f s time (plan.Make app slot j) = takes (at_task f s app slot) (brought s (made_on (slot_at s.ports.conns app slot) j f s app slot time))
+turn_of f s time (plan.Make seat j) = takes (at_task f s seat) (brought s (made_on (slot_at s.ports.conns seat) (seat, j) (router f s) time))
 
 -- ---- a whole turn
 

@@ -2,7 +2,7 @@
 
 ghost use Rattle.std.specs.Prelude.{◌≡◌, ◌+◌, ◌<◌, ◌≤◌, ◌^◌, ℕ, ⊤, [], ◌∷◌, None, true, IfSome, MatchOption, length};
 ghost use Rattle.csp_base.specs.declared.limits.TheConstants.{MAX_PAYLOAD};
-ghost use Rattle.csp_conn.specs.Opening.{first_free};
+ghost use Rattle.csp_conn.specs.Opening.{free_seat};
 ghost use Rattle.csp_conn.specs.PlainConns.{IsThere};
 ghost use Rattle.csp_ports.specs.Counts.{IsCountable};
 ghost use Rattle.csp_rdp_header.specs.Head.{parted};
@@ -10,6 +10,7 @@ ghost use Rattle.csp_stack.specs.Comes.{ComesTo, IsFree, IsServing, Rules, arriv
 ghost use Rattle.csp_stack.specs.Keeps.{Keeps};
 ghost use Rattle.csp_stack.specs.Party.{IsSendable};
 ghost use Rattle.csp_stack.specs.Readings.{is_checked};
+ghost use Rattle.csp_stack.specs.Router.{router};
 ghost use Rattle.csp_stack.specs.Rules.{accepting, inviting, invitation_of, is_mixed, of_no_connection, opening, to_connection, to_machine, to_no_socket, to_slot};
 ghost use Rattle.csp_stack.specs.Told.{leaving};
 
@@ -20,7 +21,7 @@ use crate::packet::Packet;
 use crate::readings::{are_flags_reliable, is_packet_lacking, is_packet_reliable};
 use crate::services::judge_service;
 use crate::state::State;
-use csp_base::SLOTS;
+use csp_base::{SLOTS, Seat};
 use csp_deck::{Discard, Event, Events};
 
 /// The first of the rules from the fourth on that decides.
@@ -89,31 +90,31 @@ fn judge_connection(
     requires unwritten { report.old.items ≡ [] }
     requires of_it { packet.buffer.region ≡ state.old.region }
     requires countable { IsCountable state.old.state.ports }
-    ensures told { Rules result state.old state.new report.old.items report.new.items (of_no_connection state.old.state now (arrival_of packet)) }
+    ensures told { Rules result (state.old, report.old.items) (state.new, report.new.items) (of_no_connection state.old.state now (arrival_of packet)) }
     ensures same { IfSome result (λ p. p ≡ packet) }
     ensures sendable { IsSendable facts.now state.new.state.out }
     ensures keeps { MatchOption result (Keeps (length facts.now.ifaces) state.old.state state.new.state (packet.buffer.picture.number ∷ [])) (λ _. ⊤) }
 {
     let header = packet.header;
-    let Some((app, slot)) = state.ports.find(header.src, header.sport, header.dport) else {
+    let Some(seat) = state.ports.find(packet.connection()) else {
         return Some(packet);
     };
-    if is_apart(state, app, slot, &packet) {
+    if is_apart(state, seat, &packet) {
         state.discard(Discard::Mixed, packet.into_buffer(), report);
     } else if is_packet_lacking(state.ports.owner(header.dport), &header) {
         state.discard(Discard::Required, packet.into_buffer(), report);
     } else {
-        hear_on(facts, state, app, slot, now, packet, report);
+        hear_on(facts, state, seat, now, packet, report);
     }
     None
 }
 
 /// Whether a packet is of the reliable transport and the connection on a slot is not, or the other way round.
-fn is_apart(state: &State, app: u8, slot: u8, packet: &Packet) -> bool
-    requires there { IsThere state.now.state.ports.conns app slot }
-    ensures { result ≡ is_mixed state.now.state (app, slot) (arrival_of packet.now) }
+fn is_apart(state: &State, seat: Seat, packet: &Packet) -> bool
+    requires there { IsThere state.now.state.ports.conns seat }
+    ensures { result ≡ is_mixed state.now.state seat (arrival_of packet.now) }
 {
-    let flags = state.ports.terms(app, slot).flags;
+    let flags = state.ports.terms(seat).flags;
     if is_packet_reliable(&packet.header) {
         !are_flags_reliable(flags)
     } else {
@@ -125,25 +126,24 @@ fn is_apart(state: &State, app: u8, slot: u8, packet: &Packet) -> bool
 fn hear_on(
     facts: &Facts,
     state: &mut State,
-    app: u8,
-    slot: u8,
+    seat: Seat,
     now: u64,
     packet: Packet,
     report: &mut Events,
 )
     requires sound { IsServing facts.now state.old.state }
     requires unwritten { report.old.items ≡ [] }
-    requires there { IsThere state.old.state.ports.conns app slot }
+    requires there { IsThere state.old.state.ports.conns seat }
     requires of_it { packet.buffer.region ≡ state.old.region }
     requires countable { IsCountable state.old.state.ports }
-    ensures told { ComesTo state.old state.new report.old.items report.new.items (to_connection state.old.state app slot now (arrival_of packet)) }
+    ensures told { ComesTo state.old state.new report.old.items report.new.items (to_connection state.old.state seat now (arrival_of packet)) }
     ensures sendable { IsSendable facts.now state.new.state.out }
     ensures keeps { Keeps (length facts.now.ifaces) state.old.state state.new.state (packet.buffer.picture.number ∷ []) }
 {
     if is_packet_reliable(&packet.header) {
-        hear_by_machine(facts, state, app, slot, now, packet, report);
+        hear_by_machine(facts, state, seat, now, packet, report);
     } else {
-        leave_to_slot(facts, state, app, slot, packet);
+        leave_to_slot(facts, state, seat, packet);
     }
 }
 
@@ -151,39 +151,38 @@ fn hear_on(
 fn hear_by_machine(
     facts: &Facts,
     state: &mut State,
-    app: u8,
-    slot: u8,
+    seat: Seat,
     now: u64,
     packet: Packet,
     report: &mut Events,
 )
     requires sound { IsServing facts.now state.old.state }
     requires unwritten { report.old.items ≡ [] }
-    requires there { IsThere state.old.state.ports.conns app slot }
+    requires there { IsThere state.old.state.ports.conns seat }
     requires of_it { packet.buffer.region ≡ state.old.region }
     requires countable { IsCountable state.old.state.ports }
-    ensures told { ComesTo state.old state.new report.old.items report.new.items (to_machine (parted packet.buffer.picture.payload) state.old.state app slot now (arrival_of packet)) }
+    ensures told { ComesTo state.old state.new report.old.items report.new.items (to_machine (parted packet.buffer.picture.payload) state.old.state seat now (arrival_of packet)) }
     ensures out { state.new.state.out ≡ None }
     ensures keeps { Keeps (length facts.now.ifaces) state.old.state state.new.state (packet.buffer.picture.number ∷ []) }
 {
     match packet.without_head() {
-        Ok((head, buffer)) => state.hand(app, slot, head, buffer, now, report),
+        Ok((head, buffer)) => state.hand(seat, head, buffer, now, report),
         Err(buffer) => state.discard(Discard::Malformed, buffer, report),
     }
 }
 
 /// A packet is to go to a slot of an application.
 #[tactic(auto, using(crate::proofs::Sendable::to_slot_sendable))]
-fn leave_to_slot(facts: &Facts, state: &mut State, app: u8, slot: u8, packet: Packet)
+fn leave_to_slot(facts: &Facts, state: &mut State, seat: Seat, packet: Packet)
     requires none { state.old.state.out ≡ None }
     requires of_it { packet.buffer.region ≡ state.old.region }
-    requires app { app < facts.now.apps }
-    requires slot { slot < SLOTS }
-    ensures told { ComesTo state.old state.new [] [] (leaving state.old.state (to_slot app slot packet.buffer.picture)) }
+    requires app { seat.app < facts.now.apps }
+    requires slot { seat.slot < SLOTS }
+    ensures told { ComesTo state.old state.new [] [] (leaving state.old.state (to_slot seat packet.buffer.picture)) }
     ensures sendable { IsSendable facts.now state.new.state.out }
     ensures keeps { (ifaces : ℕ) → Keeps ifaces state.old.state state.new.state (packet.buffer.picture.number ∷ []) }
 {
-    state.leave(Outgoing::to_slot(app, slot, packet.into_buffer()));
+    state.leave(Outgoing::to_slot(seat, packet.into_buffer()));
 }
 
 /// 5. A packet to a bound port opens a connection of the application that bound the port.
@@ -198,7 +197,7 @@ fn judge_socket(
     requires unwritten { report.old.items ≡ [] }
     requires of_it { packet.buffer.region ≡ state.old.region }
     requires countable { IsCountable state.old.state.ports }
-    ensures told { Rules result state.old state.new report.old.items report.new.items (to_no_socket facts.now state.old.state now (arrival_of packet)) }
+    ensures told { Rules result (state.old, report.old.items) (state.new, report.new.items) (to_no_socket facts.now state.old.state now (arrival_of packet)) }
     ensures same { IfSome result (λ p. p ≡ packet) }
     ensures sendable { IsSendable facts.now state.new.state.out }
     ensures keeps { MatchOption result (Keeps (length facts.now.ifaces) state.old.state state.new.state (packet.buffer.picture.number ∷ [])) (λ _. ⊤) }
@@ -240,7 +239,7 @@ fn accept(facts: &Facts, state: &mut State, app: u8, packet: Packet, report: &mu
     requires unwritten { report.old.items ≡ [] }
     requires of_it { packet.buffer.region ≡ state.old.region }
     requires app { app < facts.now.apps }
-    ensures told { ComesTo state.old state.new report.old.items report.new.items (accepting (first_free state.old.state.ports.conns app) state.old.state app (arrival_of packet)) }
+    ensures told { ComesTo state.old state.new report.old.items report.new.items (accepting (free_seat state.old.state.ports.conns app) state.old.state (arrival_of packet)) }
     ensures sendable { IsSendable facts.now state.new.state.out }
     ensures keeps { Keeps (length facts.now.ifaces) state.old.state state.new.state (packet.buffer.picture.number ∷ []) }
 {
@@ -249,14 +248,15 @@ fn accept(facts: &Facts, state: &mut State, app: u8, packet: Packet, report: &mu
         .ports
         .accept(app, connection, packet.header.prio, flags)
     {
-        Some(slot) => {
+        Some(seat) => {
+            let Seat { app, slot } = seat;
             report.push(Event::Opened {
                 app,
                 slot,
                 nth: None,
                 peer: None,
             });
-            leave_to_slot(facts, state, app, slot, packet);
+            leave_to_slot(facts, state, seat, packet);
         }
         None => state.discard(Discard::NoSlot, packet.into_buffer(), report),
     }
@@ -269,7 +269,7 @@ fn invite(facts: &Facts, state: &mut State, app: u8, now: u64, packet: Packet, r
     requires of_it { packet.buffer.region ≡ state.old.region }
     requires countable { IsCountable state.old.state.ports }
     requires app { app < facts.now.apps }
-    ensures told { ComesTo state.old state.new report.old.items report.new.items (inviting (invitation_of packet.buffer.picture) (first_free state.old.state.ports.conns app) facts.now state.old.state app now (arrival_of packet)) }
+    ensures told { ComesTo state.old state.new report.old.items report.new.items (inviting (invitation_of packet.buffer.picture) (free_seat state.old.state.ports.conns app) (router facts.now state.old.state) now (arrival_of packet)) }
     ensures out { state.new.state.out ≡ None }
     ensures keeps { Keeps (length facts.now.ifaces) state.old.state state.new.state (packet.buffer.picture.number ∷ []) }
 {

@@ -62,7 +62,7 @@ fn next_look(facts: &Facts, state: &State, cursor: usize, now: u64) -> Option<(Q
     requires apps { state.now.state.ports.conns.apps ≡ facts.now.apps }
     requires idle { IsIdle state.now.state now }
     ensures look { result ≡ look_of facts.now (at_cursor state.now.state cursor) now }
-    ensures passes { IfSome result (λ l. Passes facts.now state.now now cursor l.0 l.1) }
+    ensures passes { IfSome result (Passes facts.now state.now now cursor) }
 {
     match find_work(facts, state, cursor, now) {
         Some(Source::Inbox) => Some((QueueId::Inbox, past_inbox(facts))),

@@ -1,10 +1,10 @@
 //! What no turn of a router changes.
 
 ghost use Rattle.std.specs.Prelude.{◌≡◌};
-ghost use Rattle.csp_stack.specs.Router.{origin_of};
+ghost use Rattle.csp_stack.specs.Router.{flows_of};
 
 use csp_base::Addr;
-use csp_ports::Origin;
+use csp_ports::OwnFlows;
 use csp_rdp_header::Options;
 use csp_service::Names;
 use std::marker::Model;
@@ -31,10 +31,10 @@ impl Model for Facts {
 
 impl Facts {
     /// What the node's reliable connections begin with.
-    pub fn origin(&self) -> Origin
-        ensures { result ≡ origin_of self.now }
+    pub fn own_flows(&self) -> OwnFlows
+        ensures { result ≡ flows_of self.now }
     {
-        Origin {
+        OwnFlows {
             node: self.node,
             seed: self.seed,
             options: self.options,

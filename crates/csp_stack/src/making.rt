@@ -8,11 +8,13 @@ ghost use Rattle.csp_rdp.specs.Jobs.{job_of};
 ghost use Rattle.csp_stack.specs.Comes.{ComesTo, IsServing};
 ghost use Rattle.csp_stack.specs.Keeps.{Keeps};
 ghost use Rattle.csp_stack.specs.Party.{IsSendable};
+ghost use Rattle.csp_stack.specs.Router.{router};
 ghost use Rattle.csp_stack.specs.Rules.{made_on};
 
 use crate::facts::Facts;
 use crate::sending::{addressed, send};
 use crate::state::State;
+use csp_base::Seat;
 use csp_buffer::Buffer;
 use csp_conn::{Connection, Slot};
 use csp_deck::Events;
@@ -23,29 +25,26 @@ pub fn make(
     facts: &Facts,
     state: &mut State,
     now: u64,
-    app: u8,
-    slot: u8,
+    seat: Seat,
     job: Job,
     buffer: Buffer,
     report: &mut Events,
 )
     requires sound { IsServing facts.now state.old.state }
     requires unwritten { report.old.items ≡ [] }
-    requires there { IsThere state.old.state.ports.conns app slot }
+    requires there { IsThere state.old.state.ports.conns seat }
     requires of_it { buffer.region ≡ state.old.region }
-    requires owed { job_of now (machine_at state.old.state.ports app slot) ≡ Some job }
+    requires owed { job_of now (machine_at state.old.state.ports seat) ≡ Some job }
     requires sent { job ≢ Job.Deliver }
     requires cleared { IsCleared buffer.picture }
-    ensures told { ComesTo state.old state.new report.old.items report.new.items (made_on (slot_at state.old.state.ports.conns app slot) job facts.now state.old.state app slot now buffer.picture) }
+    ensures told { ComesTo state.old state.new report.old.items report.new.items (made_on (slot_at state.old.state.ports.conns seat) (seat, job) (router facts.now state.old.state) now buffer.picture) }
     ensures sendable { IsSendable facts.now state.new.state.out }
     ensures keeps { Keeps (length facts.now.ifaces) state.old.state state.new.state (buffer.picture.number ∷ []) }
 {
-    match state.ports.slot(app, slot) {
+    match state.ports.slot(seat) {
         Slot::Free | Slot::Held => state.absorb(buffer),
         Slot::Open(connection) => {
-            fill(
-                facts, state, now, app, slot, job, connection, buffer, report,
-            );
+            fill(facts, state, now, seat, job, connection, buffer, report);
         }
     }
 }
@@ -55,8 +54,7 @@ fn fill(
     facts: &Facts,
     state: &mut State,
     now: u64,
-    app: u8,
-    slot: u8,
+    seat: Seat,
     job: Job,
     connection: Connection,
     mut buffer: Buffer,
@@ -64,17 +62,17 @@ fn fill(
 )
     requires sound { IsServing facts.now state.old.state }
     requires unwritten { report.old.items ≡ [] }
-    requires there { IsThere state.old.state.ports.conns app slot }
+    requires there { IsThere state.old.state.ports.conns seat }
     requires of_it { buffer.region ≡ state.old.region }
-    requires owed { job_of now (machine_at state.old.state.ports app slot) ≡ Some job }
+    requires owed { job_of now (machine_at state.old.state.ports seat) ≡ Some job }
     requires sent { job ≢ Job.Deliver }
     requires cleared { IsCleared buffer.picture }
-    ensures told { ComesTo state.old state.new report.old.items report.new.items (made_on (Slot.Open connection) job facts.now state.old.state app slot now buffer.picture) }
+    ensures told { ComesTo state.old state.new report.old.items report.new.items (made_on (Slot.Open connection) (seat, job) (router facts.now state.old.state) now buffer.picture) }
     ensures sendable { IsSendable facts.now state.new.state.out }
     ensures keeps { Keeps (length facts.now.ifaces) state.old.state state.new.state (buffer.picture.number ∷ []) }
 {
-    let terms = state.ports.terms(app, slot);
-    state.ports.make(app, slot, job, &mut buffer, now);
+    let terms = state.ports.terms(seat);
+    state.ports.make(seat, job, &mut buffer, now);
     send(
         facts,
         state,

@@ -5,6 +5,7 @@ ghost use Rattle.csp_stack.specs.Comes.{IsHop, leaving_of};
 ghost use Rattle.csp_stack.specs.Readings.{mark_of};
 ghost use Rattle.csp_stack.specs.Rules.{by_row, to_itself, to_slot};
 
+use csp_base::Seat;
 use csp_buffer::Buffer;
 use csp_deck::{Item, Op, QueueId, UNMARKED};
 use csp_route::Row;
@@ -50,14 +51,14 @@ impl Outgoing {
     }
 
     /// A packet to an application, marked with the slot that has its connection.
-    pub(crate) fn to_slot(app: u8, slot: u8, buffer: Buffer) -> Outgoing
-        ensures packet { leaving_of result ≡ to_slot app slot buffer.picture }
+    pub(crate) fn to_slot(seat: Seat, buffer: Buffer) -> Outgoing
+        ensures packet { leaving_of result ≡ to_slot seat buffer.picture }
         ensures region { result.buffer.region ≡ buffer.region }
         ensures number { result.buffer.picture.number ≡ buffer.picture.number }
     {
         Outgoing {
-            queue: QueueId::Down(app),
-            mark: slot,
+            queue: QueueId::Down(seat.app),
+            mark: seat.slot,
             buffer,
         }
     }

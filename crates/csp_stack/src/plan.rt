@@ -1,5 +1,6 @@
 //! What a turn of a router is.
 
+use csp_base::Seat;
 use csp_deck::QueueId;
 use csp_rdp::Job;
 
@@ -18,10 +19,10 @@ pub enum Plan {
     Serve(u8),
     /// The answer that came to be owed first is pushed to the application of this number.
     Reply(u8),
-    /// The application is told that the connection on its slot is not open any more.
-    Tell(u8, u8),
-    /// The packet that the connection on an application's slot is to deliver is pushed.
-    Deliver(u8, u8),
-    /// A buffer is taken for this packet of the connection on an application's slot.
-    Make(u8, u8, Job),
+    /// An application is told that the connection on this slot is not open any more.
+    Tell(Seat),
+    /// The packet that the connection on a slot is to deliver is pushed.
+    Deliver(Seat),
+    /// A buffer is taken for this packet of the connection on a slot.
+    Make(Seat, Job),
 }

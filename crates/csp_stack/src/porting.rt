@@ -2,27 +2,27 @@
 
 ghost use Rattle.std.specs.Prelude.{◌≡◌, ◌+◌, ◌-◌, ◌^◌, ◌<◌, ◌≤◌, ℕ, [], ◌∷◌, ◌++◌, length, None, Some, Ok, Err, IfErr, IfOk, IsTrue, MatchOption};
 ghost use Rattle.csp_base.specs.declared.limits.TheConstants.{MAX_PAYLOAD};
-ghost use Rattle.csp_conn.specs.Opening.{first_free};
+ghost use Rattle.csp_conn.specs.Opening.{free_seat};
 ghost use Rattle.csp_conn.specs.PlainConns.{IsThere};
 ghost use Rattle.csp_deck.specs.Step.{times};
 ghost use Rattle.csp_ports.specs.Asking.{answered, close, connect};
 ghost use Rattle.csp_ports.specs.Counts.{AreFar, IsCountable};
 ghost use Rattle.csp_ports.specs.Held.{held};
-ghost use Rattle.csp_ports.specs.Packets.{handing, invited, submitting};
+ghost use Rattle.csp_ports.specs.Packets.{accepted, handing, invited, submitting};
 ghost use Rattle.csp_ports.specs.PlainPorts.{stalled_at, waiting};
 ghost use Rattle.csp_ports.specs.Tasks.{delivered};
 ghost use Rattle.csp_rdp_header.specs.declared.options.TheConstants.{MAX_WINDOW};
 ghost use Rattle.csp_stack.specs.Comes.{ComesTo, IsServing};
 ghost use Rattle.csp_stack.specs.Keeps.{Keeps};
 ghost use Rattle.csp_stack.specs.Party.{IsClear, IsDelivering};
-ghost use Rattle.csp_stack.specs.Router.{holds, origin_of};
+ghost use Rattle.csp_stack.specs.Router.{holds, flows_of};
 ghost use Rattle.csp_stack.specs.Told.{absorbed, ported};
 ghost use Rattle.csp_stack.specs.Turn.{timed};
 ghost use Rattle.csp_stack.specs.declared.state.TheConstants.{TRASH_ROOM};
 
 use crate::facts::Facts;
 use crate::state::State;
-use csp_base::Prio;
+use csp_base::{Prio, Seat};
 use csp_buffer::Buffer;
 use csp_conn::Connection;
 use csp_deck::Events;
@@ -78,90 +78,75 @@ impl State {
 
     /// A packet that was taken out of a connection is delivered.
     #[tactic(auto, using(crate::proofs::Keeping::ported_keeps))]
-    pub fn deliver(&mut self, app: u8, slot: u8, now: u64, report: &mut Events)
-        requires there { IsThere self.old.state.ports.conns app slot }
-        requires taken { IsDelivering self.old.state app slot }
+    pub fn deliver(&mut self, seat: Seat, now: u64, report: &mut Events)
+        requires there { IsThere self.old.state.ports.conns seat }
+        requires taken { IsDelivering self.old.state seat }
         requires room { length self.old.state.trash + length (held self.old.state.ports) ≤ TRASH_ROOM }
         requires countable { IsCountable self.old.state.ports }
         requires unwritten { report.old.items ≡ [] }
-        ensures told { ComesTo self.old self.new report.old.items report.new.items (ported self.old.state (delivered now app slot self.old.state.ports)) }
+        ensures told { ComesTo self.old self.new report.old.items report.new.items (ported self.old.state (delivered now seat self.old.state.ports)) }
         ensures keeps { (ifaces : ℕ) → Keeps ifaces self.old.state self.new.state [] }
     {
-        self.ports.deliver(app, slot, now, &mut self.trash, report);
+        self.ports.deliver(seat, now, &mut self.trash, report);
     }
 
     /// Hands a packet with this head, which was cut off, to the machine of a slot.
     #[tactic(auto, using(crate::proofs::Keeping::ported_keeps))]
-    pub fn hand(
-        &mut self,
-        app: u8,
-        slot: u8,
-        head: RdpHead,
-        packet: Buffer,
-        now: u64,
-        report: &mut Events,
-    )
-        requires there { IsThere self.old.state.ports.conns app slot }
+    pub fn hand(&mut self, seat: Seat, head: RdpHead, packet: Buffer, now: u64, report: &mut Events)
+        requires there { IsThere self.old.state.ports.conns seat }
         requires of_it { packet.region ≡ self.old.region }
         requires room { length self.old.state.trash + length (held self.old.state.ports) < TRASH_ROOM }
         requires countable { IsCountable self.old.state.ports }
         requires unwritten { report.old.items ≡ [] }
-        ensures told { ComesTo self.old self.new report.old.items report.new.items (ported self.old.state (handing self.old.state.ports app slot head packet.picture now)) }
+        ensures told { ComesTo self.old self.new report.old.items report.new.items (ported self.old.state (handing self.old.state.ports seat head packet.picture now)) }
         ensures keeps { (ifaces : ℕ) → Keeps ifaces self.old.state self.new.state (packet.picture.number ∷ []) }
     {
         self.ports
-            .hand(app, slot, head, packet, now, &mut self.trash, report);
+            .hand(seat, head, packet, now, &mut self.trash, report);
     }
 
     /// Hands a packet of an application to the reliable connection on its slot.
     #[tactic(auto, using(crate::proofs::Keeping::ported_keeps))]
-    pub fn submit(&mut self, app: u8, slot: u8, packet: Buffer, now: u64, report: &mut Events)
-        requires there { IsThere self.old.state.ports.conns app slot }
+    pub fn submit(&mut self, seat: Seat, packet: Buffer, now: u64, report: &mut Events)
+        requires there { IsThere self.old.state.ports.conns seat }
         requires of_it { packet.region ≡ self.old.region }
         requires short { length packet.picture.payload ≤ MAX_PAYLOAD - 9 }
-        requires alone { stalled_at self.old.state.ports app ≡ None }
+        requires alone { stalled_at self.old.state.ports seat.app ≡ None }
         requires room { length self.old.state.trash + length (held self.old.state.ports) < TRASH_ROOM }
         requires countable { IsCountable self.old.state.ports }
         requires unwritten { report.old.items ≡ [] }
-        ensures told { ComesTo self.old self.new report.old.items report.new.items (ported self.old.state (submitting self.old.state.ports app slot packet.picture now)) }
+        ensures told { ComesTo self.old self.new report.old.items report.new.items (ported self.old.state (submitting self.old.state.ports seat packet.picture now)) }
         ensures keeps { (ifaces : ℕ) → Keeps ifaces self.old.state self.new.state (packet.picture.number ∷ []) }
     {
         self.ports
-            .submit(app, slot, packet, now, &mut self.trash, report);
+            .submit(seat, packet, now, &mut self.trash, report);
     }
 
     /// Makes a connection that an application asks for, or refuses it.
     #[tactic(auto, using(crate::proofs::Keeping::ported_keeps))]
-    pub fn connect(
-        &mut self,
-        facts: &Facts,
-        app: u8,
-        request: Request,
-        now: u64,
-        report: &mut Events,
-    )
+    pub fn connect(&mut self, facts: &Facts, request: Request, now: u64, report: &mut Events)
         requires sound { IsServing facts.now self.old.state }
-        requires there { IsThere self.old.state.ports.conns app request.slot }
-        requires first { waiting app self.old.state.ports.owed ≡ 0 }
+        requires there { IsThere self.old.state.ports.conns request.seat }
+        requires first { waiting request.seat.app self.old.state.ports.owed ≡ 0 }
         requires countable { IsCountable self.old.state.ports }
         requires unwritten { report.old.items ≡ [] }
-        ensures told { ComesTo self.old self.new report.old.items report.new.items (ported self.old.state (connect (origin_of facts.now) self.old.state.ports app request now)) }
+        ensures told { ComesTo self.old self.new report.old.items report.new.items (ported self.old.state (connect (flows_of facts.now) self.old.state.ports request now)) }
         ensures keeps { (ifaces : ℕ) → Keeps ifaces self.old.state self.new.state [] }
     {
         self.ports
-            .connect(facts.origin(), app, request, now, &mut self.trash, report);
+            .connect(facts.own_flows(), request, now, &mut self.trash, report);
     }
 
     /// Ends a slot that an application asks to be closed.
     #[tactic(auto, using(crate::proofs::Keeping::ported_keeps))]
-    pub fn close(&mut self, app: u8, slot: u8, now: u64)
-        requires there { IsThere self.old.state.ports.conns app slot }
-        requires first { waiting app self.old.state.ports.owed ≡ 0 }
+    pub fn close(&mut self, seat: Seat, now: u64)
+        requires there { IsThere self.old.state.ports.conns seat }
+        requires first { waiting seat.app self.old.state.ports.owed ≡ 0 }
         requires room { length self.old.state.trash + length (held self.old.state.ports) ≤ TRASH_ROOM }
-        ensures told { ComesTo self.old self.new [] [] (ported self.old.state (close self.old.state.ports app slot now)) }
+        ensures told { ComesTo self.old self.new [] [] (ported self.old.state (close self.old.state.ports seat now)) }
         ensures keeps { (ifaces : ℕ) → Keeps ifaces self.old.state self.new.state [] }
     {
-        self.ports.close(app, slot, now, &mut self.trash);
+        self.ports.close(seat, now, &mut self.trash);
     }
 
     /// Opens a reliable connection by a packet that asks for one, in the least free slot of an application: the
@@ -183,12 +168,12 @@ impl State {
         requires countable { IsCountable self.old.state.ports }
         requires low { 1 ≤ invitation.options.window }
         requires high { invitation.options.window ≤ MAX_WINDOW }
-        ensures told { MatchOption (first_free self.old.state.ports.conns app) ((result ≡ Err packet) × (self.new ≡ self.old)) (λ slot. (result ≡ Ok tt) × ComesTo self.old self.new [] [] (absorbed packet.picture (ported self.old.state (invited (origin_of facts.now) self.old.state.ports app slot connection prio flags invitation now)))) }
+        ensures told { MatchOption (free_seat self.old.state.ports.conns app) ((result ≡ Err packet) × (self.new ≡ self.old)) (λ seat. (result ≡ Ok tt) × ComesTo self.old self.new [] [] (absorbed packet.picture (ported self.old.state (invited (flows_of facts.now) invitation seat now (accepted self.old.state.ports seat connection prio flags))))) }
         ensures back { IfErr result (λ b. (b ≡ packet) × (self.new ≡ self.old)) }
         ensures keeps { IfOk result (λ _. (ifaces : ℕ) → Keeps ifaces self.old.state self.new.state (packet.picture.number ∷ [])) }
     {
         match self.ports.invite(
-            facts.origin(),
+            facts.own_flows(),
             app,
             connection,
             prio,

@@ -7,12 +7,12 @@ ghost use Rattle.csp_deck.specs.Regions.{IsItemOf};
 ghost use Rattle.csp_deck.specs.Step.{item_numbers};
 ghost use Rattle.csp_log.specs.Pictures.{shown_item};
 ghost use Rattle.csp_ports.specs.Asking.{bind};
-ghost use Rattle.csp_ports.specs.Asking.{is_reliable};
 ghost use Rattle.csp_ports.specs.Counts.{IsCountable};
-ghost use Rattle.csp_ports.specs.PlainPorts.{stalled_at, terms_at, waiting};
+ghost use Rattle.csp_ports.specs.PlainPorts.{stalled_at, waiting};
 ghost use Rattle.csp_stack.specs.Comes.{ComesTo, IsServing};
 ghost use Rattle.csp_stack.specs.Keeps.{Keeps};
 ghost use Rattle.csp_stack.specs.Party.{IsFrom, IsSendable};
+ghost use Rattle.csp_stack.specs.Router.{router};
 ghost use Rattle.csp_stack.specs.Rules.{by_mark, by_slot, on_connection, requested, served};
 ghost use Rattle.csp_stack.specs.Told.{unchanged, with_ports};
 
@@ -20,7 +20,7 @@ use crate::facts::Facts;
 use crate::readings::are_flags_reliable;
 use crate::sending::{addressed, send};
 use crate::state::State;
-use csp_base::Port;
+use csp_base::{Port, Seat};
 use csp_buffer::Buffer;
 use csp_conn::{Connection, Slot};
 use csp_deck::{Discard, Event, Events, Item, ItemShown, MAX_DATA, Note, UNMARKED};
@@ -42,7 +42,8 @@ pub fn serve(facts: &Facts, state: &mut State, now: u64, app: u8, item: Item, re
 {
     match item {
         Item::Packet { mark, buffer } => {
-            serve_packet(facts, state, now, app, mark, buffer, report);
+            let seat = Seat { app, slot: mark };
+            serve_packet(facts, state, now, seat, buffer, report);
         }
         Item::Note(note) => request(facts, state, now, app, note, report),
         Item::Frame(_) => {}
@@ -54,25 +55,24 @@ fn serve_packet(
     facts: &Facts,
     state: &mut State,
     now: u64,
-    app: u8,
-    mark: u8,
+    seat: Seat,
     buffer: Buffer,
     report: &mut Events,
 )
     requires sound { IsServing facts.now state.old.state }
     requires unwritten { report.old.items ≡ [] }
     requires of_it { buffer.region ≡ state.old.region }
-    requires from { IsFrom facts.now app (ItemShown.Packet mark buffer.picture) }
-    requires alone { stalled_at state.old.state.ports app ≡ None }
+    requires from { IsFrom facts.now seat.app (ItemShown.Packet seat.slot buffer.picture) }
+    requires alone { stalled_at state.old.state.ports seat.app ≡ None }
     requires countable { IsCountable state.old.state.ports }
-    ensures told { ComesTo state.old state.new report.old.items report.new.items (by_mark (mark == UNMARKED) facts.now state.old.state app mark now buffer.picture) }
+    ensures told { ComesTo state.old state.new report.old.items report.new.items (by_mark (seat.slot == UNMARKED) (router facts.now state.old.state) seat now buffer.picture) }
     ensures sendable { IsSendable facts.now state.new.state.out }
     ensures keeps { Keeps (length facts.now.ifaces) state.old.state state.new.state (buffer.picture.number ∷ []) }
 {
-    if mark == UNMARKED {
+    if seat.slot == UNMARKED {
         send(facts, state, buffer, report);
     } else {
-        serve_slot(facts, state, now, app, mark, buffer, report);
+        serve_slot(facts, state, now, seat, buffer, report);
     }
 }
 
@@ -81,26 +81,25 @@ fn serve_slot(
     facts: &Facts,
     state: &mut State,
     now: u64,
-    app: u8,
-    slot: u8,
+    seat: Seat,
     buffer: Buffer,
     report: &mut Events,
 )
     requires sound { IsServing facts.now state.old.state }
     requires unwritten { report.old.items ≡ [] }
     requires of_it { buffer.region ≡ state.old.region }
-    requires there { IsThere state.old.state.ports.conns app slot }
+    requires there { IsThere state.old.state.ports.conns seat }
     requires room { length buffer.picture.payload ≤ MAX_DATA }
-    requires alone { stalled_at state.old.state.ports app ≡ None }
+    requires alone { stalled_at state.old.state.ports seat.app ≡ None }
     requires countable { IsCountable state.old.state.ports }
-    ensures told { ComesTo state.old state.new report.old.items report.new.items (by_slot (slot_at state.old.state.ports.conns app slot) facts.now state.old.state app slot now buffer.picture) }
+    ensures told { ComesTo state.old state.new report.old.items report.new.items (by_slot (slot_at state.old.state.ports.conns seat) (router facts.now state.old.state) seat now buffer.picture) }
     ensures sendable { IsSendable facts.now state.new.state.out }
     ensures keeps { Keeps (length facts.now.ifaces) state.old.state state.new.state (buffer.picture.number ∷ []) }
 {
-    match state.ports.slot(app, slot) {
+    match state.ports.slot(seat) {
         Slot::Free | Slot::Held => state.discard(Discard::NoConn, buffer, report),
         Slot::Open(connection) => {
-            serve_connection(facts, state, now, app, slot, connection, buffer, report);
+            serve_connection(facts, state, now, seat, connection, buffer, report);
         }
     }
 }
@@ -110,8 +109,7 @@ fn serve_connection(
     facts: &Facts,
     state: &mut State,
     now: u64,
-    app: u8,
-    slot: u8,
+    seat: Seat,
     connection: Connection,
     buffer: Buffer,
     report: &mut Events,
@@ -119,21 +117,21 @@ fn serve_connection(
     requires sound { IsServing facts.now state.old.state }
     requires unwritten { report.old.items ≡ [] }
     requires of_it { buffer.region ≡ state.old.region }
-    requires there { IsThere state.old.state.ports.conns app slot }
+    requires there { IsThere state.old.state.ports.conns seat }
     requires room { length buffer.picture.payload ≤ MAX_DATA }
-    requires alone { stalled_at state.old.state.ports app ≡ None }
+    requires alone { stalled_at state.old.state.ports seat.app ≡ None }
     requires countable { IsCountable state.old.state.ports }
-    ensures told { ComesTo state.old state.new report.old.items report.new.items (on_connection (is_reliable (terms_at state.old.state.ports app slot).flags) connection facts.now state.old.state app slot now buffer.picture) }
+    ensures told { ComesTo state.old state.new report.old.items report.new.items (on_connection connection (router facts.now state.old.state) seat now buffer.picture) }
     ensures sendable { IsSendable facts.now state.new.state.out }
     ensures keeps { Keeps (length facts.now.ifaces) state.old.state state.new.state (buffer.picture.number ∷ []) }
 {
-    let terms = state.ports.terms(app, slot);
+    let terms = state.ports.terms(seat);
     if are_flags_reliable(terms.flags) {
-        state.submit(app, slot, buffer, now, report);
+        state.submit(seat, buffer, now, report);
         return;
     }
     report.push(Event::Sent {
-        slot,
+        slot: seat.slot,
         ordinal: terms.ordinal,
     });
     send(
@@ -166,21 +164,19 @@ fn request(facts: &Facts, state: &mut State, now: u64, app: u8, note: Note, repo
             prio,
             flags,
             from,
-        } => state.connect(
-            facts,
-            app,
-            Request {
-                slot,
+        } => {
+            let seat = Seat { app, slot };
+            let request = Request {
+                seat,
                 dest,
                 port,
                 prio,
                 flags,
                 from,
-            },
-            now,
-            report,
-        ),
-        Note::Close { slot } => state.close(app, slot, now),
+            };
+            state.connect(facts, request, now, report);
+        }
+        Note::Close { slot } => state.close(Seat { app, slot }, now),
         Note::Bound | Note::Connected { .. } | Note::Refused { .. } => {}
         Note::Closed { .. } | Note::Down { .. } => {}
     }

@@ -34,6 +34,7 @@ use crate::serving::serve;
 use crate::sources::{count_sources, past_app, past_inbox, past_jobs, source_in};
 use crate::state::State;
 use crate::{Plan, Source};
+use csp_base::Seat;
 use csp_deck::{Answer, AnswerShown, Discard, Events, Item, Note, Op, OpShown, QueueId};
 use csp_ports::{Owed, Task};
 use csp_rdp::Job;
@@ -177,86 +178,88 @@ fn begin_job(facts: &Facts, state: &mut State, now: u64) -> Op
         return Op::Push(QueueId::Down(app), Item::Note(note));
     }
     match state.ports.next_task(now) {
-        Some((app, slot, task)) => begin_task(facts, state, app, slot, task, now),
+        Some((seat, task)) => begin_task(facts, state, seat, task, now),
         None => rest(facts, state, now),
     }
 }
 
 /// Begins a turn of a connection that comes to its task.
-fn begin_task(facts: &Facts, state: &mut State, app: u8, slot: u8, task: Task, now: u64) -> Op
+fn begin_task(facts: &Facts, state: &mut State, seat: Seat, task: Task, now: u64) -> Op
     requires sound { IsTimed facts.now state.old.state }
     requires clear { IsClear state.old.state }
-    requires there { IsThere state.old.state.ports.conns app slot }
-    requires owed { IsOwedBy task now app slot state.old.state.ports }
+    requires there { IsThere state.old.state.ports.conns seat }
+    requires owed { IsOwedBy task now seat state.old.state.ports }
     ensures served { CanServe (rules_of facts.now) (shown_op result) }
-    ensures op { shown_op result ≡ (turn_of facts.now state.old.state now (plan_for app slot task)).asks }
-    ensures state { state.new.state ≡ asked_by facts.now state.old.state now (plan_for app slot task) }
+    ensures op { shown_op result ≡ (turn_of facts.now state.old.state now (plan_for seat task)).asks }
+    ensures state { state.new.state ≡ asked_by facts.now state.old.state now (plan_for seat task) }
     ensures of_it { IsOpOf state.old.region result }
     ensures region { state.new.region ≡ state.old.region }
     ensures asks { Asks facts.now state.old.state state.new.state now (shown_op result) }
 {
     match task {
-        Task::Tell => begin_note(facts, state, app, slot, now),
-        Task::Deliver => begin_delivery(facts, state, app, slot, now),
-        Task::Make(job) => begin_packet(facts, state, app, slot, job, now),
+        Task::Tell => begin_note(facts, state, seat, now),
+        Task::Deliver => begin_delivery(facts, state, seat, now),
+        Task::Make(job) => begin_packet(facts, state, seat, job, now),
     }
 }
 
 /// Begins the push of a Down note.
 #[tactic(auto, using(crate::proofs::Resting::ports_ask, crate::proofs::Sendable::reply_served))]
-fn begin_note(facts: &Facts, state: &mut State, app: u8, slot: u8, _now: u64) -> Op
+fn begin_note(facts: &Facts, state: &mut State, seat: Seat, _now: u64) -> Op
     requires sound { IsTimed facts.now state.old.state }
     requires clear { IsClear state.old.state }
-    requires there { IsThere state.old.state.ports.conns app slot }
+    requires there { IsThere state.old.state.ports.conns seat }
     ensures served { CanServe (rules_of facts.now) (shown_op result) }
-    ensures op { shown_op result ≡ (turn_of facts.now state.old.state _now (Plan.Tell app slot)).asks }
-    ensures state { state.new.state ≡ asked_by facts.now state.old.state _now (Plan.Tell app slot) }
+    ensures op { shown_op result ≡ (turn_of facts.now state.old.state _now (Plan.Tell seat)).asks }
+    ensures state { state.new.state ≡ asked_by facts.now state.old.state _now (Plan.Tell seat) }
     ensures of_it { IsOpOf state.old.region result }
     ensures region { state.new.region ≡ state.old.region }
     ensures asks { Asks facts.now state.old.state state.new.state _now (shown_op result) }
 {
     state.cursor = past_jobs(facts);
-    state.doing = Plan::Tell(app, slot);
-    state.ports.turn(app, slot);
+    state.doing = Plan::Tell(seat);
+    state.ports.turn(seat);
+    let Seat { app, slot } = seat;
     Op::Push(QueueId::Down(app), Item::Note(Note::Down { slot }))
 }
 
 /// Begins the push of the packet that a connection is to deliver, which it hands over.
 #[tactic(auto, using(crate::proofs::Sendable::to_slot_sendable))]
-fn begin_delivery(facts: &Facts, state: &mut State, app: u8, slot: u8, _now: u64) -> Op
+fn begin_delivery(facts: &Facts, state: &mut State, seat: Seat, _now: u64) -> Op
     requires sound { IsTimed facts.now state.old.state }
     requires clear { IsClear state.old.state }
-    requires there { IsThere state.old.state.ports.conns app slot }
-    requires owed { IsOwedBy Task.Deliver _now app slot state.old.state.ports }
+    requires there { IsThere state.old.state.ports.conns seat }
+    requires owed { IsOwedBy Task.Deliver _now seat state.old.state.ports }
     ensures served { CanServe (rules_of facts.now) (shown_op result) }
-    ensures op { shown_op result ≡ (turn_of facts.now state.old.state _now (Plan.Deliver app slot)).asks }
-    ensures state { state.new.state ≡ asked_by facts.now state.old.state _now (Plan.Deliver app slot) }
+    ensures op { shown_op result ≡ (turn_of facts.now state.old.state _now (Plan.Deliver seat)).asks }
+    ensures state { state.new.state ≡ asked_by facts.now state.old.state _now (Plan.Deliver seat) }
     ensures of_it { IsOpOf state.old.region result }
     ensures region { state.new.region ≡ state.old.region }
     ensures asks { Asks facts.now state.old.state state.new.state _now (shown_op result) }
 {
     state.cursor = past_jobs(facts);
-    state.doing = Plan::Deliver(app, slot);
-    state.ports.turn(app, slot);
-    let buffer = state.ports.take_packet(app, slot);
+    state.doing = Plan::Deliver(seat);
+    state.ports.turn(seat);
+    let buffer = state.ports.take_packet(seat);
+    let Seat { app, slot } = seat;
     Op::Push(QueueId::Down(app), Item::Packet { mark: slot, buffer })
 }
 
 /// Begins the taking of a buffer for a packet that a connection owes.
 #[tactic(auto, using(crate::proofs::Resting::ports_ask))]
-fn begin_packet(facts: &Facts, state: &mut State, app: u8, slot: u8, job: Job, _now: u64) -> Op
+fn begin_packet(facts: &Facts, state: &mut State, seat: Seat, job: Job, _now: u64) -> Op
     requires sound { IsTimed facts.now state.old.state }
     requires clear { IsClear state.old.state }
-    requires there { IsThere state.old.state.ports.conns app slot }
-    requires owed { IsOwedBy (Task.Make job) _now app slot state.old.state.ports }
+    requires there { IsThere state.old.state.ports.conns seat }
+    requires owed { IsOwedBy (Task.Make job) _now seat state.old.state.ports }
     ensures op { result ≡ Op.Take }
-    ensures state { state.new.state ≡ asked_by facts.now state.old.state _now (Plan.Make app slot job) }
+    ensures state { state.new.state ≡ asked_by facts.now state.old.state _now (Plan.Make seat job) }
     ensures region { state.new.region ≡ state.old.region }
     ensures asks { Asks facts.now state.old.state state.new.state _now (shown_op result) }
 {
     state.cursor = past_jobs(facts);
-    state.doing = Plan::Make(app, slot, job);
-    state.ports.turn(app, slot);
+    state.doing = Plan::Make(seat, job);
+    state.ports.turn(seat);
     Op::Take
 }
 
@@ -349,8 +352,8 @@ fn miss_plan(_facts: &Facts, state: &mut State, _now: u64, doing: Plan, report: 
     state.bounds();
     match doing {
         Plan::Hear | Plan::Serve(_) => {}
-        Plan::Rest | Plan::Give | Plan::Push(_, _) | Plan::Make(_, _, _) => unreachable!(),
-        Plan::Reply(_) | Plan::Tell(_, _) | Plan::Deliver(_, _) => unreachable!(),
+        Plan::Rest | Plan::Give | Plan::Push(_, _) | Plan::Make(_, _) => unreachable!(),
+        Plan::Reply(_) | Plan::Tell(_) | Plan::Deliver(_) => unreachable!(),
     }
 }
 
@@ -385,11 +388,9 @@ fn finish_plan(
         Plan::Hear => finish_hear(facts, state, now, answer, report),
         Plan::Serve(app) => finish_serve(facts, state, now, app, answer, report),
         Plan::Reply(_) => finish_reply(facts, state, answer, report),
-        Plan::Tell(app, slot) => finish_note(facts, state, app, slot, answer, report),
-        Plan::Deliver(app, slot) => finish_delivery(facts, state, now, app, slot, answer, report),
-        Plan::Make(app, slot, job) => {
-            finish_packet(facts, state, now, app, slot, job, answer, report);
-        }
+        Plan::Tell(seat) => finish_note(facts, state, seat, answer, report),
+        Plan::Deliver(seat) => finish_delivery(facts, state, now, seat, answer, report),
+        Plan::Make(seat, job) => finish_packet(facts, state, now, seat, job, answer, report),
     }
 }
 
@@ -463,8 +464,7 @@ fn refuse(state: &mut State, item: Item, report: &mut Events)
 {
     match item {
         Item::Packet { mark: _, buffer } => state.discard(Discard::Full, buffer, report),
-        Item::Note(_) => {}
-        Item::Frame(_) => {}
+        Item::Note(_) | Item::Frame(_) => {}
     }
 }
 
@@ -503,8 +503,7 @@ fn hear_item(facts: &Facts, state: &mut State, now: u64, item: Item, report: &mu
             count_in(state, mark, &buffer);
             hear(facts, state, now, Packet::of(mark, buffer), report);
         }
-        Item::Note(_) => {}
-        Item::Frame(_) => {}
+        Item::Note(_) | Item::Frame(_) => {}
     }
 }
 
@@ -554,25 +553,18 @@ fn finish_reply(facts: &Facts, state: &mut State, answer: Answer, report: &mut E
 }
 
 /// A Down note was pushed, or stays owed where its lane has no room.
-fn finish_note(
-    facts: &Facts,
-    state: &mut State,
-    app: u8,
-    slot: u8,
-    answer: Answer,
-    report: &mut Events,
-)
+fn finish_note(facts: &Facts, state: &mut State, seat: Seat, answer: Answer, report: &mut Events)
     requires sound { IsServing facts.now state.old.state }
     requires unwritten { report.old.items ≡ [] }
-    requires there { IsThere state.old.state.ports.conns app slot }
+    requires there { IsThere state.old.state.ports.conns seat }
     requires fits { buffer_in (shown_answer answer) ≡ None }
     requires of_it { IsAnswerFrom state.old.region answer }
-    ensures told { ComesTo state.old state.new report.old.items report.new.items (cond (is_pushed (shown_answer answer)) (unchanged (with_ports state.old.state (told_down app slot state.old.state.ports))) (no_room state.old.state (packet_in (item_in (shown_answer answer))))) }
+    ensures told { ComesTo state.old state.new report.old.items report.new.items (cond (is_pushed (shown_answer answer)) (unchanged (with_ports state.old.state (told_down seat state.old.state.ports))) (no_room state.old.state (packet_in (item_in (shown_answer answer))))) }
     ensures out { state.new.state.out ≡ None }
     ensures keeps { Keeps (length facts.now.ifaces) state.old.state state.new.state (answer_numbers (shown_answer answer)) }
 {
     if let Answer::Pushed = answer {
-        state.ports.tell_down(app, slot);
+        state.ports.tell_down(seat);
     } else {
         finish_push(state, answer, report);
     }
@@ -583,46 +575,43 @@ fn finish_delivery(
     facts: &Facts,
     state: &mut State,
     now: u64,
-    app: u8,
-    slot: u8,
+    seat: Seat,
     answer: Answer,
     report: &mut Events,
 )
     requires sound { IsServing facts.now state.old.state }
     requires unwritten { report.old.items ≡ [] }
-    requires there { IsThere state.old.state.ports.conns app slot }
-    requires taken { IsDelivering state.old.state app slot }
+    requires there { IsThere state.old.state.ports.conns seat }
+    requires taken { IsDelivering state.old.state seat }
     requires fits { buffer_in (shown_answer answer) ≡ None }
     requires of_it { IsAnswerFrom state.old.region answer }
     requires countable { IsCountable state.old.state.ports }
-    ensures told { ComesTo state.old state.new report.old.items report.new.items ((turn_of facts.now state.old.state now (Plan.Deliver app slot)).told (shown_answer answer)) }
+    ensures told { ComesTo state.old state.new report.old.items report.new.items ((turn_of facts.now state.old.state now (Plan.Deliver seat)).told (shown_answer answer)) }
     ensures out { state.new.state.out ≡ None }
     ensures keeps { Keeps (length facts.now.ifaces) state.old.state state.new.state (answer_numbers (shown_answer answer)) }
 {
     if let Answer::Pushed = answer {
-        state.deliver(app, slot, now, report);
+        state.deliver(seat, now, report);
     } else {
-        keep_delivery(state, app, slot, answer);
+        keep_delivery(state, seat, answer);
     }
 }
 
 /// A packet that could not be delivered is kept by its connection again.
 #[tactic(auto, using(crate::proofs::Keeping::unchanged_keeps))]
-fn keep_delivery(state: &mut State, app: u8, slot: u8, answer: Answer)
+fn keep_delivery(state: &mut State, seat: Seat, answer: Answer)
     requires none { state.old.state.out ≡ None }
-    requires there { IsThere state.old.state.ports.conns app slot }
-    requires taken { IsDelivering state.old.state app slot }
+    requires there { IsThere state.old.state.ports.conns seat }
+    requires taken { IsDelivering state.old.state seat }
     requires fits { buffer_in (shown_answer answer) ≡ None }
     requires of_it { IsAnswerFrom state.old.region answer }
-    ensures told { ComesTo state.old state.new [] [] (kept_back state.old.state app slot (packet_in (item_in (shown_answer answer)))) }
+    ensures told { ComesTo state.old state.new [] [] (kept_back state.old.state seat (packet_in (item_in (shown_answer answer)))) }
     ensures out { state.new.state.out ≡ None }
     ensures keeps { (ifaces : ℕ) → Keeps ifaces state.old.state state.new.state (answer_numbers (shown_answer answer)) }
 {
     match state.item_of(answer) {
-        Some(Item::Packet { mark: _, buffer }) => state.ports.keep_packet(app, slot, buffer),
-        Some(Item::Note(_)) => {}
-        Some(Item::Frame(_)) => {}
-        None => {}
+        Some(Item::Packet { mark: _, buffer }) => state.ports.keep_packet(seat, buffer),
+        Some(Item::Note(_) | Item::Frame(_)) | None => {}
     }
 }
 
@@ -632,25 +621,24 @@ fn finish_packet(
     facts: &Facts,
     state: &mut State,
     now: u64,
-    app: u8,
-    slot: u8,
+    seat: Seat,
     job: Job,
     answer: Answer,
     report: &mut Events,
 )
     requires sound { IsServing facts.now state.old.state }
     requires unwritten { report.old.items ≡ [] }
-    requires there { IsThere state.old.state.ports.conns app slot }
-    requires owed { job_of now (machine_at state.old.state.ports app slot) ≡ Some job }
+    requires there { IsThere state.old.state.ports.conns seat }
+    requires owed { job_of now (machine_at state.old.state.ports seat) ≡ Some job }
     requires sent { job ≢ Job.Deliver }
     requires fits { item_in (shown_answer answer) ≡ None }
     requires cleared { IfSome (buffer_in (shown_answer answer)) IsCleared }
     requires of_it { IsAnswerFrom state.old.region answer }
-    ensures told { ComesTo state.old state.new report.old.items report.new.items ((turn_of facts.now state.old.state now (Plan.Make app slot job)).told (shown_answer answer)) }
+    ensures told { ComesTo state.old state.new report.old.items report.new.items ((turn_of facts.now state.old.state now (Plan.Make seat job)).told (shown_answer answer)) }
     ensures sendable { IsSendable facts.now state.new.state.out }
     ensures keeps { Keeps (length facts.now.ifaces) state.old.state state.new.state (answer_numbers (shown_answer answer)) }
 {
     if let Some(buffer) = state.buffer_of(answer) {
-        make(facts, state, now, app, slot, job, buffer, report);
+        make(facts, state, now, seat, job, buffer, report);
     }
 }

@@ -4,8 +4,9 @@
 
 ghost use Rattle.std.specs.Prelude.{◌≡◌};
 
+use csp_base::Seat;
 use csp_cases::{Case, Steps, stepped};
-use csp_conn::{Conns, OpenError};
+use csp_conn::{Connection, Conns, OpenError};
 use csp_socket::{BindError, Sockets};
 
 /// The slots and the bound ports of a node.
@@ -49,7 +50,7 @@ impl Ports {
         } else {
             None
         };
-        match self.conns.open(app, slot, node, port, from) {
+        match self.conns.open(Seat { app, slot }, node, port, from) {
             Ok(own) => case.tell_number(u64::from(own.get())),
             Err(OpenError::Busy) => case.tell("busy"),
             Err(OpenError::PortBusy) => case.tell("port busy"),
@@ -59,18 +60,16 @@ impl Ports {
     /// Tells the slot of a connection that a packet opens.
     fn incoming(&mut self, case: &mut Case) {
         let app = case.below(4);
-        let (peer, port, own) = (case.addr(), case.port(), case.port());
-        match self.conns.incoming(app, peer, port, own) {
-            Ok(slot) => case.tell_number(u64::from(slot)),
+        match self.conns.incoming(app, connection(case)) {
+            Ok(seat) => case.tell_number(u64::from(seat.slot)),
             Err(_) => case.tell("no slot"),
         }
     }
 
     /// Tells the application and the slot of a connection.
     fn find(&self, case: &mut Case) {
-        let (peer, port, own) = (case.addr(), case.port(), case.port());
-        match self.conns.find(peer, port, own) {
-            Some((app, slot)) => write!(case, "{app} {slot}"),
+        match self.conns.find(connection(case)) {
+            Some(Seat { app, slot }) => write!(case, "{app} {slot}"),
             None => case.tell("none"),
         }
     }
@@ -78,7 +77,7 @@ impl Ports {
     /// Frees a slot.
     fn free(&mut self, case: &mut Case) {
         let (app, slot) = (case.below(4), case.below(4));
-        self.conns.free(app, slot);
+        self.conns.free(Seat { app, slot });
         case.tell("ok");
     }
 
@@ -98,5 +97,14 @@ impl Ports {
             Err(BindError::NotBindable) => case.tell("not bindable"),
             Err(BindError::InUse { owner }) => write!(case, "in use by {owner}"),
         }
+    }
+}
+
+/// Reads a connection: its peer, the port there, and the own port.
+fn connection(case: &mut Case) -> Connection {
+    Connection {
+        peer: case.addr(),
+        peer_port: case.port(),
+        own_port: case.port(),
     }
 }

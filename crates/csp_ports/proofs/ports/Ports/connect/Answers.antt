@@ -18,8 +18,8 @@ returns-in-Ok-clause-comes c = search rules
 pub returns-in-Ok-clause-keeps : goal.returns-in-Ok-clause-keeps
 returns-in-Ok-clause-keeps c =
     let p = c.args.self.now.ports in
-    keeps_of 1 c.args.self.now c.ask.new.self c.args.trash.now c.ask.new.trash c.args.report.now.items c.args.report.now.items (connect c.args.origin p c.args.app c.args.request c.args.now) []
-    (returns-in-Ok-clause-comes c) (flows_connected c.args.origin p c.args.app c.args.request c.args.now (whole_seen c.self.inside c.args.self.now c.self.view_is c.self.invariant))
+    keeps_of 1 c.args.self.now c.ask.new.self c.args.trash.now c.ask.new.trash c.args.report.now.items c.args.report.now.items (connect c.args.flows p c.args.request c.args.now) []
+    (returns-in-Ok-clause-comes c) (flows_connected c.args.flows p c.args.request c.args.now (whole_seen c.self.inside c.args.self.now c.self.view_is c.self.invariant))
 
 pub returns-in-Ok-2-clause-comes : goal.returns-in-Ok-2-clause-comes
 returns-in-Ok-2-clause-comes c = search rules
@@ -27,5 +27,5 @@ returns-in-Ok-2-clause-comes c = search rules
 pub returns-in-Ok-2-clause-keeps : goal.returns-in-Ok-2-clause-keeps
 returns-in-Ok-2-clause-keeps c =
     let p = c.args.self.now.ports in
-    keeps_of 1 c.args.self.now c.owe.new.self c.args.trash.now c.args.trash.now c.args.report.now.items c.push.new.self.items (connect c.args.origin p c.args.app c.args.request c.args.now) []
-    (returns-in-Ok-2-clause-comes c) (flows_connected c.args.origin p c.args.app c.args.request c.args.now (whole_seen c.self.inside c.args.self.now c.self.view_is c.self.invariant))
+    keeps_of 1 c.args.self.now c.owe.new.self c.args.trash.now c.args.trash.now c.args.report.now.items c.push.new.self.items (connect c.args.flows p c.args.request c.args.now) []
+    (returns-in-Ok-2-clause-comes c) (flows_connected c.args.flows p c.args.request c.args.now (whole_seen c.self.inside c.args.self.now c.self.view_is c.self.invariant))

@@ -7,12 +7,12 @@ use Rattle.csp_ports.proofs.ports.Ports.free_as.Goals as goal
 
 pub returns-clause-wishes : goal.returns-clause-wishes
 returns-clause-wishes c =
-    let app = c.args.app in
-    let gone = ap (λ (x : PortsAt). wishes app (terms_of x.ports)) c.replace.ensures.comes.ports ∙ ap (wishes app) (terms_of_machine c.set_terms.new.self.ports app c.args.slot None) in
+    let app = c.args.seat.app in
+    let gone = ap (λ (x : PortsAt). wishes app (terms_of x.ports)) c.replace.ensures.comes.ports ∙ ap (wishes app) (terms_of_machine c.set_terms.new.self.ports c.args.seat None) in
     omega (
       arith,
       gone,
       c.set_terms.ensures.wishes,
       ap (λ (x : PortsAt). wishes app (terms_of x.ports)) c.self.view_is,
-      ap (λ (x : PortsAt). wished (terms_at x.ports app c.args.slot).wish) c.self.view_is,
+      ap (λ (x : PortsAt). wished (terms_at x.ports c.args.seat).wish) c.self.view_is,
     )

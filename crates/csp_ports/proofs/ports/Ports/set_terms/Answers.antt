@@ -14,27 +14,27 @@ use Rattle.csp_ports.proofs.ports.Ports.set_terms.Goals as goal
 
 pub invariant_of-self : goal.invariant_of-self
 invariant_of-self c =
-    terms_kept c.self.inside c.args.app c.args.slot c.place.result c.index_mut.result.now c.args.terms c.place.ensures.value c.requires.there.of_app c.place.ensures.inside c.self.invariant c.index_mut.ensures.value
-    (subst (λ (x : PortsAt). (waiting c.args.app x.ports.owed + wishes c.args.app (terms_of x.ports)) + wished c.args.terms.wish ≤ ANSWERS + wished (terms_at x.ports c.args.app c.args.slot).wish) (sym c.self.view_is) c.requires.due)
+    terms_kept c.self.inside c.args.seat c.place.result c.index_mut.result.now c.args.terms c.place.ensures.value c.requires.there.of_app c.place.ensures.inside c.self.invariant c.index_mut.ensures.value
+    (subst (λ (x : PortsAt). (waiting c.args.seat.app x.ports.owed + wishes c.args.seat.app (terms_of x.ports)) + wished c.args.terms.wish ≤ ANSWERS + wished (terms_at x.ports c.args.seat).wish) (sym c.self.view_is) c.requires.due)
 
 pub returns-clause-ports : goal.returns-clause-ports
 returns-clause-ports c =
-    terms_set c.self.inside c.args.app c.args.slot c.place.result c.index_mut.result.now c.args.terms c.place.ensures.value c.place.ensures.inside c.self.invariant c.index_mut.ensures.value
-    ∙ ap (λ (x : PortsAt). with_ports_at x (with_terms x.ports c.args.app c.args.slot c.args.terms)) c.self.view_is
+    terms_set c.self.inside c.args.seat c.place.result c.index_mut.result.now c.args.terms c.place.ensures.value c.place.ensures.inside c.self.invariant c.index_mut.ensures.value
+    ∙ ap (λ (x : PortsAt). with_ports_at x (with_terms x.ports c.args.seat c.args.terms)) c.self.view_is
 
 pub returns-clause-wishes : goal.returns-clause-wishes
 returns-clause-wishes c =
-    let app = c.args.app in
-    let slot = c.args.slot in
+    let seat = c.args.seat in
+    let app = seat.app in
     let p = plain_ports c.self.inside in
-    let there : place_of app slot < length (terms_of p) = omega (arith, c.place.ensures.inside, c.place.ensures.value, c.self.invariant.slots, seen_terms c.self.inside) in
-    let old = subst (λ (t : Terms). wishes app (terms_of (with_terms p app slot c.args.terms)) + wished t.wish ≡ wishes app (terms_of p) + wished c.args.terms.wish) (sym (terms_listed p app slot))
-    (rw (terms_of_terms p app slot c.args.terms) (wishes_at app slot (terms_of p) c.args.terms fresh c.requires.there.of_app there)) in
-    subst (λ (x : PortsAt). wishes app (terms_of x.ports) + wished (terms_at c.args.self.now.ports app slot).wish ≡ wishes app (terms_of c.args.self.now.ports) + wished c.args.terms.wish) (sym (returns-clause-ports c))
-    (subst (λ (x : PortsAt). wishes app (terms_of (with_terms x.ports app slot c.args.terms)) + wished (terms_at x.ports app slot).wish ≡ wishes app (terms_of x.ports) + wished c.args.terms.wish) c.self.view_is old)
+    let there : place_of seat < length (terms_of p) = omega (arith, c.place.ensures.inside, c.place.ensures.value, c.self.invariant.slots, seen_terms c.self.inside) in
+    let old = subst (λ (t : Terms). wishes app (terms_of (with_terms p seat c.args.terms)) + wished t.wish ≡ wishes app (terms_of p) + wished c.args.terms.wish) (sym (terms_listed p seat))
+    (rw (terms_of_terms p seat c.args.terms) (wishes_at seat (terms_of p) c.args.terms fresh c.requires.there.of_app there)) in
+    subst (λ (x : PortsAt). wishes app (terms_of x.ports) + wished (terms_at c.args.self.now.ports seat).wish ≡ wishes app (terms_of c.args.self.now.ports) + wished c.args.terms.wish) (sym (returns-clause-ports c))
+    (subst (λ (x : PortsAt). wishes app (terms_of (with_terms x.ports seat c.args.terms)) + wished (terms_at x.ports seat).wish ≡ wishes app (terms_of x.ports) + wished c.args.terms.wish) c.self.view_is old)
 
 pub returns-clause-held : goal.returns-clause-held
-returns-clause-held c = ap (λ (x : PortsAt). held x.ports) (returns-clause-ports c) ∙ held_terms c.args.self.now.ports c.args.app c.args.slot c.args.terms
+returns-clause-held c = ap (λ (x : PortsAt). held x.ports) (returns-clause-ports c) ∙ held_terms c.args.self.now.ports c.args.seat c.args.terms
 
 pub returns-clause-far : goal.returns-clause-far
-returns-clause-far c = λ n h few. subst (λ (x : PortsAt). AreFar n x.ports) (sym (returns-clause-ports c)) (far_terms n c.args.self.now.ports c.args.app c.args.slot c.args.terms few h)
+returns-clause-far c = λ n h few. subst (λ (x : PortsAt). AreFar n x.ports) (sym (returns-clause-ports c)) (far_terms n c.args.self.now.ports c.args.seat c.args.terms few h)

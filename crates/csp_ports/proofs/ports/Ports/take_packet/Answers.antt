@@ -15,7 +15,7 @@ use Rattle.csp_rdp.specs.Regions.{IsIn}
 use Rattle.csp_rdp_window.specs.Numbers.{number_in}
 use Rattle.csp_ports.proofs.Serving.{keeps_taken, nothing_there, now_taken}
 use Rattle.csp_ports.proofs.Wholes.{there_few, whole_seen}
-use Rattle.csp_ports.specs.Keeps.{Keeps}
+use Rattle.csp_ports.specs.Keeps.{Keeps, at_hand}
 use Rattle.csp_rdp_window.specs.Receiving.{is_kept}
 use Rattle.csp_ports.proofs.ports.Ports.take_packet.Goals as goal
 
@@ -26,7 +26,7 @@ invariant_of-self c =
     let r = c.in-Some.machine in
     let h = housed_in p c.place.result c.index_mut.result.now r c.place.ensures.inside c.self.invariant c.index_mut.ensures.value (sym c.in-Some.is) in
     let same = c.deliver.ensures.state in
-    machines_kept p c.args.app c.args.slot c.place.result c.index_mut.result.now (Some c.deliver.new.self) c.place.ensures.value c.place.ensures.inside c.index_mut.ensures.value
+    machines_kept p c.args.seat c.place.result c.index_mut.result.now (Some c.deliver.new.self) c.place.ensures.value c.place.ensures.inside c.index_mut.ensures.value
     (housed_next name r c.deliver.new.self
     (rw same (c.keeps_region.ensures.taken name r h.region).0) (rw same (c.keeps_whole.ensures.taken r h.whole)) (rw same (c.keeps_rest.ensures.taken r h.rested))
     (omega (arith, ap (λ (q : PlainRdp). length (rdp_numbers q)) same, (c.conserves.ensures.taken r h.whole).count, length-append (rdp_numbers (without_delivery r)) (number_in (delivery r)))) h)
@@ -34,27 +34,27 @@ invariant_of-self c =
 
 pub unreachable-requires : goal.unreachable-requires
 unreachable-requires c =
-    let gone = machine_absent c.self.inside c.args.self.now c.args.app c.args.slot c.place.result c.index_mut.result.now c.self.view_is c.place.ensures.value c.place.ensures.inside c.self.invariant c.index_mut.ensures.value c.in_default.is in
-    nothing_there (delivery (machine_at c.args.self.now.ports c.args.app c.args.slot)) (ap delivery gone) c.requires.owed.1
+    let gone = machine_absent c.self.inside c.args.self.now c.args.seat c.place.result c.index_mut.result.now c.self.view_is c.place.ensures.value c.place.ensures.inside c.self.invariant c.index_mut.ensures.value c.in_default.is in
+    nothing_there (delivery (machine_at c.args.self.now.ports c.args.seat)) (ap delivery gone) c.requires.owed.1
 
 pub unreachable-requires-in-None : goal.unreachable-requires-in-None
 unreachable-requires-in-None c =
     let r = c.in-Some.machine in
-    let seen = machine_seen c.self.inside c.args.self.now c.args.app c.args.slot c.place.result c.index_mut.result.now r c.self.view_is c.place.ensures.value c.place.ensures.inside c.self.invariant c.index_mut.ensures.value (sym c.in-Some.is) in
-    nothing_there (delivery (machine_at c.args.self.now.ports c.args.app c.args.slot))
+    let seen = machine_seen c.self.inside c.args.self.now c.args.seat c.place.result c.index_mut.result.now r c.self.view_is c.place.ensures.value c.place.ensures.inside c.self.invariant c.index_mut.ensures.value (sym c.in-Some.is) in
+    nothing_there (delivery (machine_at c.args.self.now.ports c.args.seat))
     (sym (ap delivery seen) ∙ (c.sees_no_region.ensures.delivery nowhere r ∙ ap (λ (o : Option PlainBuffer). option_map (placed_buffer nowhere) o) (sym c.deliver.ensures.buffer ∙ c.in-None.is)))
     c.requires.owed.1
 
 pub returns-clause-packet : goal.returns-clause-packet
 returns-clause-packet c =
     let r = c.in-Some.machine in
-    let seen = machine_seen c.self.inside c.args.self.now c.args.app c.args.slot c.place.result c.index_mut.result.now r c.self.view_is c.place.ensures.value c.place.ensures.inside c.self.invariant c.index_mut.ensures.value (sym c.in-Some.is) in
+    let seen = machine_seen c.self.inside c.args.self.now c.args.seat c.place.result c.index_mut.result.now r c.self.view_is c.place.ensures.value c.place.ensures.inside c.self.invariant c.index_mut.ensures.value (sym c.in-Some.is) in
     sym (ap delivery seen) ∙ (c.sees_no_region.ensures.delivery nowhere r ∙ ap (λ (o : Option PlainBuffer). option_map (placed_buffer nowhere) o) (sym c.deliver.ensures.buffer ∙ c.in-Some-deliver.is))
 
 pub returns-clause-ports : goal.returns-clause-ports
 returns-clause-ports c =
     let r = c.in-Some.machine in
-    machine_stepped c.self.inside c.args.self.now c.args.app c.args.slot c.place.result c.index_mut.result.now r c.deliver.new.self without_delivery c.self.view_is c.place.ensures.value c.place.ensures.inside c.self.invariant
+    machine_stepped c.self.inside c.args.self.now c.args.seat c.place.result c.index_mut.result.now r c.deliver.new.self without_delivery c.self.view_is c.place.ensures.value c.place.ensures.inside c.self.invariant
     c.index_mut.ensures.value (sym c.in-Some.is) (ap (placed nowhere) c.deliver.ensures.state ∙ c.sees_no_region.ensures.taken nowhere r)
 
 pub returns-clause-of_it : goal.returns-clause-of_it
@@ -70,21 +70,21 @@ pub returns-clause-open : goal.returns-clause-open
 returns-clause-open c =
     let p = c.args.self.now.ports in
     let whole = whole_seen c.self.inside c.args.self.now c.self.view_is c.self.invariant in
-    let few = there_few p c.args.app c.args.slot whole c.requires.there in
-    ap (λ (x : PortsAt). (machine_at x.ports c.args.app c.args.slot).state) (returns-clause-ports c) ∙ (now_taken p c.args.app c.args.slot few.1 whole c.requires.owed.0).0
+    let few = there_few p c.args.seat whole c.requires.there in
+    ap (λ (x : PortsAt). (machine_at x.ports c.args.seat).state) (returns-clause-ports c) ∙ (now_taken p c.args.seat few.1 whole c.requires.owed.0).0
 
 pub returns-clause-taken : goal.returns-clause-taken
 returns-clause-taken c =
     let p = c.args.self.now.ports in
     let whole = whole_seen c.self.inside c.args.self.now c.self.view_is c.self.invariant in
-    let few = there_few p c.args.app c.args.slot whole c.requires.there in
-    ap (λ (x : PortsAt). is_kept (machine_at x.ports c.args.app c.args.slot).recv ((machine_at x.ports c.args.app c.args.slot).recv.cur + 1)) (returns-clause-ports c)
-    ∙ (now_taken p c.args.app c.args.slot few.1 whole c.requires.owed.0).1
+    let few = there_few p c.args.seat whole c.requires.there in
+    ap (λ (x : PortsAt). is_kept (machine_at x.ports c.args.seat).recv ((machine_at x.ports c.args.seat).recv.cur + 1)) (returns-clause-ports c)
+    ∙ (now_taken p c.args.seat few.1 whole c.requires.owed.0).1
 
 pub returns-clause-keeps : goal.returns-clause-keeps
 returns-clause-keeps c =
     let p = c.args.self.now.ports in
     let whole = whole_seen c.self.inside c.args.self.now c.self.view_is c.self.invariant in
-    let few = there_few p c.args.app c.args.slot whole c.requires.there in
-    subst (λ (x : PortsAt). Keeps 0 p x.ports [] (c.in-Some-deliver.packet.picture ∷ []) []) (sym (returns-clause-ports c))
-    (keeps_taken p c.args.app c.args.slot c.in-Some-deliver.packet.picture few.1 whole (returns-clause-packet c))
+    let few = there_few p c.args.seat whole c.requires.there in
+    subst (λ (x : PortsAt). Keeps 0 (at_hand p []) (at_hand x.ports (c.in-Some-deliver.packet.picture ∷ [])) []) (sym (returns-clause-ports c))
+    (keeps_taken p c.args.seat c.in-Some-deliver.packet.picture few.1 whole (returns-clause-packet c))

@@ -4,7 +4,7 @@ use csp_rdp_header::Options;
 
 /// What the reliable connections of a node begin with.
 #[derive(Clone, Copy)]
-pub struct Origin {
+pub struct OwnFlows {
     /// The node's place among the nodes, by which tags name it.
     pub node: u8,
     /// What the first sequence numbers are drawn from.
