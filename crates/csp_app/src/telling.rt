@@ -19,7 +19,7 @@ impl App {
     ghost use Rattle.csp_app.specs.PlainApp.{uses, count, with_app};
     ghost use Rattle.csp_app.specs.Asking.{awaits};
     ghost use Rattle.csp_app.specs.Room.{CanLook, GoesOn};
-    ghost use Rattle.csp_app.specs.Steps.{batch, making, pushed_one, answered_by, received, waited, turn_of};
+    ghost use Rattle.csp_app.specs.Steps.{batch, making, pushed_one, note_awaited, received, waited, turn_of};
     ghost use Rattle.csp_app.specs.Telling.{tells, events, at_rest};
     ghost use Rattle.csp_app.specs.ToldApp.{next};
     ghost use Rattle.csp_app.specs.Turn.{looked};
@@ -291,8 +291,8 @@ impl App {
     fn look_at_note(&mut self, note: &Note) -> Option<Event>
         requires resting { self.old.app.doing ≡ AppPlan.Rest }
         requires step { GoesOn self.old.app }
-        ensures event { option_to_list result ≡ (answered_by self.old.app note.now).events }
-        ensures state { self.new ≡ with_app self.old (answered_by self.old.app note.now).state }
+        ensures event { option_to_list result ≡ (note_awaited self.old.app note.now).events }
+        ensures state { self.new ≡ with_app self.old (note_awaited self.old.app note.now).state }
     {
         let step = self.progress.done as u32 + 1;
         match note {
