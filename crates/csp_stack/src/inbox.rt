@@ -54,7 +54,7 @@ fn judge_destination(
     requires free { IsFree state.old.state report.old.items }
     requires of_it { packet.buffer.region ≡ state.old.region }
     requires within { IsWithin (length facts.now.ifaces) state.old.state.routes }
-    ensures told { Rules result state.old state.new report.old.items report.new.items (for_this_node facts.now state.old.state (arrival_of packet)) }
+    ensures told { Rules result (state.old, report.old.items) (state.new, report.new.items) (for_this_node facts.now state.old.state (arrival_of packet)) }
     ensures same { IfSome result (λ p. p ≡ packet) }
     ensures sendable { IsSendable facts.now state.new.state.out }
     ensures keeps { MatchOption result (Keeps (length facts.now.ifaces) state.old.state state.new.state (packet.buffer.picture.number ∷ [])) (λ _. ⊤) }
@@ -91,7 +91,7 @@ fn forward(facts: &Facts, state: &mut State, row: Row, packet: Packet, report: &
 fn judge_security(state: &mut State, packet: Packet, report: &mut Events) -> Option<Packet>
     requires free { IsFree state.old.state report.old.items }
     requires of_it { packet.buffer.region ≡ state.old.region }
-    ensures told { Rules result state.old state.new report.old.items report.new.items (not_secured state.old.state (arrival_of packet)) }
+    ensures told { Rules result (state.old, report.old.items) (state.new, report.new.items) (not_secured state.old.state (arrival_of packet)) }
     ensures same { IfSome result (λ p. p ≡ packet) }
     ensures none { state.new.state.out ≡ None }
     ensures keeps { MatchOption result ((ifaces : ℕ) → Keeps ifaces state.old.state state.new.state (packet.buffer.picture.number ∷ [])) (λ _. ⊤) }
@@ -108,7 +108,7 @@ fn judge_security(state: &mut State, packet: Packet, report: &mut Events) -> Opt
 fn judge_checksum(state: &mut State, packet: Packet, report: &mut Events) -> Option<Packet>
     requires free { IsFree state.old.state report.old.items }
     requires of_it { packet.buffer.region ≡ state.old.region }
-    ensures told { Rules result state.old state.new report.old.items report.new.items (without_checksum state.old.state (arrival_of packet)) }
+    ensures told { Rules result (state.old, report.old.items) (state.new, report.new.items) (without_checksum state.old.state (arrival_of packet)) }
     ensures room { IfSome result (λ p. is_checked p.header ≡ true → length p.buffer.picture.payload + 4 ≤ MAX_PAYLOAD) }
     ensures none { state.new.state.out ≡ None }
     ensures keeps { MatchOption result ((ifaces : ℕ) → Keeps ifaces state.old.state state.new.state (packet.buffer.picture.number ∷ [])) (λ p. p.buffer.picture.number ≡ packet.buffer.picture.number) }

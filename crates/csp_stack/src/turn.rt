@@ -611,7 +611,8 @@ fn keep_delivery(state: &mut State, seat: Seat, answer: Answer)
 {
     match state.item_of(answer) {
         Some(Item::Packet { mark: _, buffer }) => state.ports.keep_packet(seat, buffer),
-        Some(Item::Note(_) | Item::Frame(_)) | None => {}
+        Some(Item::Note(_) | Item::Frame(_)) => {}
+        None => {}
     }
 }
 
