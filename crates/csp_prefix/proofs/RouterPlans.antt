@@ -3,6 +3,7 @@ use Rattle.std.proofs.Common.{◌≡◌, ℕ, ◌*◌, ◌/◌, ◌%◌, ◌<◌
 use Rattle.std.specs.Prelude.{if◌then◌else◌, is_some}
 use Rattle.std.specs.Option.{option_map}
 use Rattle.std.proofs.lemmas.Bool.{and_parts, ltb-true}
+use Rattle.csp_base.specs.declared.seat.Seat.{Seat}
 use Rattle.csp_base.specs.declared.limits.TheConstants.{SLOTS}
 use Rattle.csp_ports.specs.PlainPorts.{PlainPorts, machine_at, stalled_at, terms_at, waiting}
 use Rattle.csp_ports.specs.Tasks.{circle, has_task, next_task, place_with_task, task_at, task_by, task_of, task_with}
@@ -114,8 +115,9 @@ task_there time p t e = by_place (place_with_task time p) refl e
         let parts = and_parts (nat_lt k (p.conns.apps * SLOTS)) (is_some (task_of time p k)) passes in
         by_task k (task_of time p k) (ltb-true k (p.conns.apps * SLOTS) parts.0) refl e
 
-pub make_job : (time : ℕ) (p : PlainPorts) (app slot : ℕ) (j : Job) → task_at time p app slot ≡ Some (task.Make j) → job_of time (machine_at p app slot) ≡ Some j
-make_job time p app slot j e = made_job (terms_at p app slot).is_down (job_of time (machine_at p app slot)) j e
+pub make_job : (time : ℕ) (p : PlainPorts) (seat : Seat) (j : Job) → task_at time p seat ≡ Some (task.Make j) → job_of time (machine_at p seat) ≡ Some j
+make_job time p seat j e = made_job (terms_at p seat).is_down (job_of time (machine_at p seat)) j e
 
-pub deliver_job : (time : ℕ) (p : PlainPorts) (app slot : ℕ) → task_at time p app slot ≡ Some task.Deliver → is_some (delivery (machine_at p app slot)) ≡ true
-deliver_job time p app slot e = delivery_there time (machine_at p app slot) (delivered_job (terms_at p app slot).is_down (job_of time (machine_at p app slot)) e)
+pub deliver_job : (time : ℕ) (p : PlainPorts) (seat : Seat) → task_at time p seat ≡ Some task.Deliver → is_some (delivery (machine_at p seat)) ≡ true
+deliver_job time p seat e = delivery_there time (machine_at p seat) (delivered_job (terms_at p seat).is_down (job_of time (machine_at p seat)) e)
+
