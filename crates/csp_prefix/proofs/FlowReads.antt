@@ -175,8 +175,8 @@ said_is es numbered app nth x flow =
     by : IsSearched es nth (apps_in es) (said_of es nth) → said_of es nth ≡ sent (seat app x.slot) x.ordinal es
     by (inl none) = absurd (none.1 app flow.at x (opening_among app no_ends es flow.at x (ap (λ xs. slice_get xs flow.at) (sym (openings_are app es)) ∙ flow.there)) flow.there flow.numbered)
     by (inr on) =
-        let same : (on.app ≡ app) × (on.opening.slot ≡ x.slot) × (on.opening.ordinal ≡ x.ordinal) = numbered on.app app nth on.opening x on.flow flow in
-        on.same ∙ λ i. sent (same.0 i) (same.1 i) (same.2 i) es
+        let same : (seat on.app on.opening.slot ≡ seat app x.slot) × (on.opening.ordinal ≡ x.ordinal) = numbered on.app app nth on.opening x on.flow flow in
+        on.same ∙ λ i. sent (same.0 i) (same.1 i) es
 
 -- and nothing where there is none
 pub said_none : (es : List Entry) (nth : ℕ) → ((app : ℕ) (x : Opening) → IsFlowOf es app nth x → ⊥) → said_of es nth ≡ []

@@ -18,7 +18,7 @@ use Rattle.csp_rdp.specs.Machine.{PlainRdp, idle}
 use Rattle.csp_rdp.specs.declared.answers.Change.TheVariants as change
 use Rattle.csp_rdp.specs.declared.answers.State.{State}
 use Rattle.csp_rdp.specs.declared.answers.State.TheVariants.{Closed, CloseWait, Open, SynRcvd, SynSent}
-use Rattle.csp_rdp.specs.declared.answers.Cause.{Cause as MachineWhy}
+use Rattle.csp_rdp.specs.declared.answers.Cause.{Cause}
 use Rattle.csp_prefix.proofs.PortFacts.{Leaves, using}
 use Rattle.csp_prefix.proofs.PortSlots.{AreFine, AreFineBut, IsFine, book_but, ended_but, machine_but, machine_or_but, none_some, owing_but, slot_but, terms_but, whole}
 use Rattle.csp_prefix.proofs.PortViews.{View, now_of, view}
@@ -98,7 +98,7 @@ module _ {Is : Numbering → Seat → Now → Type 0} {Tight : ℕ → Type 0} {
       let k = (terms_at p seat).ordinal in
       record { same = refl; new = tt; fine = whole (freed_but k) (vacant_fine k (ordinal_seen counted) waits book ends) }
 
-  pub refused_leaves : (w : Wish) (why : MachineWhy) → v.terms.ordinal ≡ ordinals seat → v.waits ≡ None → v.book ≡ blank → v.ends ≡ 0 → Leaves Is Tight m ordinals books p.conns.apps (refused_by w why seat p)
+  pub refused_leaves : (w : Wish) (why : Cause) → v.terms.ordinal ≡ ordinals seat → v.waits ≡ None → v.book ≡ blank → v.ends ≡ 0 → Leaves Is Tight m ordinals books p.conns.apps (refused_by w why seat p)
   refused_leaves wish.Connection why counted waits book ends =
       let k = (terms_at p seat).ordinal in
       record { same = refl; new = tt; fine = whole (owing_but (freed_but k) seat.app (note.Refused (reason_of why)) h.here tt (λ s. refl)) (vacant_fine k (ordinal_seen counted) waits book ends) }
@@ -181,7 +181,7 @@ module _ {Is : Numbering → Seat → Now → Type 0} {Tight : ℕ → Type 0} {
   opened_leaves loose none u =
       subst (λ (v : View). v.book ≡ blank → IsUse Is m (ordinals seat) seat v (after_opening (now_of v)) → Leaves Is Tight m ordinals books p.conns.apps (changed change.Opened seat p)) h.seen (opened_on loose) none u
 
-  refused_changed : (why : MachineWhy) → v.terms.ordinal ≡ ordinals seat → v.waits ≡ None → v.book ≡ blank → v.ends ≡ 0 → Leaves Is Tight m ordinals books p.conns.apps (changed (change.Refused why) seat p)
+  refused_changed : (why : Cause) → v.terms.ordinal ≡ ordinals seat → v.waits ≡ None → v.book ≡ blank → v.ends ≡ 0 → Leaves Is Tight m ordinals books p.conns.apps (changed (change.Refused why) seat p)
   refused_changed why counted waits book ends = refused_leaves h (terms_at p seat).wish why counted waits book ends
 
 -- ---- a step of the connection
@@ -204,7 +204,7 @@ syn_sent_closed e = cc
 
 module _ {o : OwnFlows} {C : Coming} {Is : Numbering → Seat → Now → Type 0} (kept : IsKept o C Is)
     {Tight : ℕ → Type 0} {m : Numbering} {ordinals : Ordinals} {books : Books} {p : PlainPorts} {seat : Seat} {v : View} (h : AreFineBut Is Tight m ordinals books p seat v)
-    (before : State) (why : MachineWhy) (r : PlainRdp) (loose : Tight seat.app → ⊥) (edge : IsEdge Is m (ordinals seat) seat before r v) where
+    (before : State) (why : Cause) (r : PlainRdp) (loose : Tight seat.app → ⊥) (edge : IsEdge Is m (ordinals seat) seat before r v) where
   stepped_but : AreFineBut Is Tight m ordinals books (with_machine p seat (rested r)) seat (record v { machine = rested r })
   stepped_but = machine_but h (rested r)
 

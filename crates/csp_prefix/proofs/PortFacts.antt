@@ -1,6 +1,7 @@
 -- ports that are good, by their slots; one step after another; and what is on a slot
 use Rattle.std.specs.Prelude.{Bool, true, false, None, ⊤}
 use Rattle.std.proofs.Common.{◌≡◌, ◌⊎◌, inl, inr, ℕ, ◌+◌, List, [], ◌∷◌, ◌++◌, ap, refl, sym, subst, ◌∙◌}
+use Rattle.csp_base.specs.Seat.{seat}
 use Rattle.csp_base.specs.declared.seat.Seat.{Seat}
 use Rattle.csp_conn.specs.declared.slot.Connection.{Connection}
 use Rattle.csp_conn.specs.declared.slot.Slot.{Slot}

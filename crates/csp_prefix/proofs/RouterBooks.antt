@@ -51,11 +51,11 @@ past_after o a events h = record {
 abbrev pub with_openings : List Event → Past → Past
 with_openings events h = record h { opened = λ app. h.opened app ++ flat_map (opened_by app (ends_of app h)) events }
 
-abbrev pub sent_on : Seat → List ℕ → Past → Past
-sent_on s payload h = record h { sent = λ a o. h.sent a o ++ (if h.ends a == o then (if is_same s a then payload ∷ [] else []) else []) }
+abbrev pub one_sent : Seat → List ℕ → Past → Past
+one_sent s payload h = record h { sent = λ a o. h.sent a o ++ (if h.ends a == o then (if is_same s a then payload ∷ [] else []) else []) }
 
-abbrev pub down_on : Seat → List ℕ → Past → Past
-down_on s payload h = record h { down = λ a o. h.down a o ++ (if h.ends a == o then (if is_same s a then payload ∷ [] else []) else []) }
+abbrev pub one_down : Seat → List ℕ → Past → Past
+one_down s payload h = record h { down = λ a o. h.down a o ++ (if h.ends a == o then (if is_same s a then payload ∷ [] else []) else []) }
 
 abbrev pub freed_on : Seat → Past → Past
 freed_on s h = record h { ends = λ a. if is_same s a then h.ends a + 1 else h.ends a }
@@ -255,7 +255,7 @@ module _ (Over : Numbering → ℕ → Opening → List (List ℕ) → Type 0) (
       by_test false e = refl
       by_test true e = absurd (differ (eqb-true n o e))
 
-  pub tells_sent : (h : Past) (books : Books) (s : Seat) (payload : List ℕ) → Tells Over apps m h books → Tells Over apps m (sent_on s payload h) (with_sent s payload books)
+  pub tells_sent : (h : Past) (books : Books) (s : Seat) (payload : List ℕ) → Tells Over apps m h books → Tells Over apps m (one_sent s payload h) (with_sent s payload books)
   tells_sent h books s payload t = record {
     told = λ a. AllByRecursion-map (IsTold Over apps m h books a) _ (h.opened a)
         (λ x i. record {
@@ -278,7 +278,7 @@ module _ (Over : Numbering → ℕ → Opening → List (List ℕ) → Type 0) (
       abbrev with_sent_if : Bool → Seat → List (List ℕ)
       with_sent_if here a = (if here then record (books s) { sent = (books s).sent ++ payload ∷ [] } else books a).sent
 
-  pub tells_down : (h : Past) (books : Books) (s : Seat) (payload : List ℕ) → Tells Over apps m h books → Tells Over apps m (down_on s payload h) (with_down s payload books)
+  pub tells_down : (h : Past) (books : Books) (s : Seat) (payload : List ℕ) → Tells Over apps m h books → Tells Over apps m (one_down s payload h) (with_down s payload books)
   tells_down h books s payload t = record {
     told = λ a. AllByRecursion-map (IsTold Over apps m h books a) _ (h.opened a)
         (λ x i. record {

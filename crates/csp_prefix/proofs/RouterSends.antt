@@ -123,8 +123,8 @@ are_numbered f routes es ports opens log app other nth x y is also =
     let r = sender_run f routes es (λ b. ⊤) k log in
     let one = opening_known (sender_aim f es (λ b. ⊤)) f es k r app nth x is nth is.numbered in
     let two = opening_known (sender_aim f es (λ b. ⊤)) f es k r other nth y also nth also.numbered in
-    let same : (app, x.slot, x.ordinal) ≡ (other, y.slot, y.ordinal) = sym one.home ∙ two.home in
-    (ap (λ t. t.0) same, ap (λ t. t.1) same, ap (λ t. t.2) same)
+    let same : (seat app x.slot, x.ordinal) ≡ (seat other y.slot, y.ordinal) = sym one.home ∙ two.home in
+    (ap (λ t. t.0) same, ap (λ t. t.1) same)
 
 -- each opening's application and slot are there
 pub are_placed : (f : Facts) (routes : Routes) (es : List Entry) → ArePortsKept (flows_of f) whatever (IsSender (flows_of f)) → OpensNumbered (IsSender (flows_of f)) → IsRouterLog f routes es → ArePlaced f es
@@ -172,7 +172,7 @@ true_packet f es flows h m books seat time j n shown part tells same known =
       payload = λ e.
           let k = known.carries e in
           let opened : (books seat).opened ≡ Some (Some r.nth, r.peer) = ap (λ (b : Book). b.opened) (sym same) ∙ k.3.opened in
-          let x : Opening = opening_on seat.slot (h.ends seat) (Some r.nth, r.peer) in
+          let x : Opening = opening_on seat (h.ends seat) (Some r.nth, r.peer) in
           let flow = opening_flow es h seat.app r.nth x part (tells.back seat (Some r.nth, r.peer) opened) refl in
           let all : flows.said (r.node, r.nth) ≡ (past es).sent seat (h.ends seat) = ap (λ k. flows.said (k, r.nth)) k.0 ∙ shown.said seat.app r.nth x flow ∙ sym (past_sent es seat (h.ends seat)) in
           let told : n.book.sent ≡ h.sent seat (h.ends seat) = ap (λ (b : Book). b.sent) same ∙ tells.sent seat in

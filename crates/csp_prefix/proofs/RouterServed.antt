@@ -4,6 +4,7 @@ use Rattle.std.specs.Prelude.{if◌then◌else◌, is_some, nat_lt}
 use Rattle.std.specs.List.{AllByRecursion, flat_map}
 use Rattle.std.proofs.lemmas.Bool.{eq-eqb}
 use Rattle.std.proofs.lemmas.List.{append-nil}
+use Rattle.csp_base.specs.Seat.{seat}
 use Rattle.csp_base.specs.declared.seat.Seat.{Seat}
 use Rattle.csp_buffer.specs.Content.{Content}
 use Rattle.csp_conn.specs.PlainConns.{slot_at}
@@ -42,13 +43,12 @@ use Rattle.csp_header.specs.Word.{header_at}
 use Rattle.csp_socket.specs.Bound.{owner_of}
 use Rattle.csp_socket.specs.declared.sockets.TheConstants.{BINDABLE_PORTS}
 use Rattle.csp_stack.specs.Readings.{is_checked}
-use Rattle.csp_stack.specs.Router.{Facts, State, flows_of}
-use Rattle.csp_stack.specs.Rules.{addressed, by_mark, by_slot, header_for, on_connection, requested, sent, sent_by, served}
+use Rattle.csp_stack.specs.Router.{Facts, State, flows_of, router}
+use Rattle.csp_stack.specs.Rules.{addressed, by_mark, by_slot, header_for, ported, requested, sent, sent_by, sent_on, served}
 use Rattle.csp_stack.specs.Told.{Told, discarded}
-use Rattle.csp_prefix.specs.Ports.{AreGood, IsInUse, IsSlot, Submits, now_at, with_sent}
+use Rattle.csp_prefix.specs.Ports.{AreGood, Books, IsInUse, IsSlot, Submits, is_same, now_at, with_sent}
 use Rattle.csp_prefix.specs.Routers.{IsUntraced}
-use Rattle.csp_prefix.specs.Slots.{Book}
-use Rattle.csp_prefix.proofs.RouterBooks.{Past, Tells, no_openings_of, past_after, past_same, sent_on, tells_sent}
+use Rattle.csp_prefix.proofs.RouterBooks.{Past, Tells, ends_of, no_openings_of, one_sent, past_after, past_same, tells_sent}
 use Rattle.csp_prefix.proofs.RouterEntry.{AreUnsent, none_on, quiet_entry}
 use Rattle.csp_prefix.proofs.RouterHeard.{Quietly, protected_trace, stands_discarded, stands_sent, stands_unchanged}
 use Rattle.csp_prefix.proofs.RouterStanding.{Aim, IsAim, IsOut, Stands, good_plain, stands_comes}
@@ -73,9 +73,9 @@ sent_here seat a payload told rest unsent = by_app (seat.app == a.app)
     by_app true = ap (λ xs. (if seat.slot == a.slot then payload ∷ [] else []) ++ xs) (unsent a.slot (Some payload)) ∙ append-nil _
 
 pub sent_entry : (seat : Seat) (told : ℕ) (b : Content) (rest : List Event) (h : Past) → AreUnsent rest → ((app : ℕ) (ends : Ends) → flat_map (opened_by app ends) rest ≡ [])
-    → sent_on seat b.payload h ≡ past_after (op.Pop (queue.Up seat.app)) (answer.Popped (item.Packet seat.slot b)) (event.Sent seat.slot told ∷ rest) h
+    → one_sent seat b.payload h ≡ past_after (op.Pop (queue.Up seat.app)) (answer.Popped (item.Packet seat.slot b)) (event.Sent seat.slot told ∷ rest) h
 sent_entry seat told b rest h unsent none =
-    past_same (sent_on seat b.payload h) (past_after (op.Pop (queue.Up seat.app)) (answer.Popped (item.Packet seat.slot b)) (event.Sent seat.slot told ∷ rest) h)
+    past_same (one_sent seat b.payload h) (past_after (op.Pop (queue.Up seat.app)) (answer.Popped (item.Packet seat.slot b)) (event.Sent seat.slot told ∷ rest) h)
     (λ app. sym (append-nil (h.opened app)) ∙ ap (λ xs. h.opened app ++ xs) (sym (none app (ends_of app h))))
     (λ a o. ap (λ xs. h.sent a o ++ (if h.ends a == o then xs else [])) (sym (sent_here seat a b.payload told rest unsent)))
     (λ a o. sym (append-nil _) ∙ ap (λ xs. h.down a o ++ xs) (none_on (h.ends a == o) [] refl)) (λ a. refl) refl
@@ -125,7 +125,7 @@ module _ (g : Aim) (f : Facts) (whole : Past) (k : IsAim g f whole) where
 
   -- ---- a packet for a slot
   by_connection_so : (reliable : Bool) (c : Connection) (h : Past) (s : State) (seat : Seat) (time : ℕ) (b : Content) → slot_at s.ports.conns seat ≡ has.Open c → is_reliable (terms_at s.ports seat).flags ≡ reliable
-      → seat.app < s.ports.conns.apps → seat.slot < SLOTS → stalled_at s.ports seat.app ≡ None → s.out ≡ None → IsUntraced (item.Packet seat.slot b) → Stands g f h s.ports s.out → Serves h seat.app (item.Packet seat.slot b) (on_connection reliable c f s seat time b)
+      → seat.app < s.ports.conns.apps → seat.slot < SLOTS → stalled_at s.ports seat.app ≡ None → s.out ≡ None → IsUntraced (item.Packet seat.slot b) → Stands g f h s.ports s.out → Serves h seat.app (item.Packet seat.slot b) (if reliable then ported s (submitting s.ports seat b time) else sent_on c (router f s) seat b)
   by_connection_so false c h s seat time b there plain few low free empty untraced w =
       let told : ℕ = (terms_at s.ports seat).ordinal in
       let x : Content = addressed f c (terms_at s.ports seat) b in
@@ -180,20 +180,20 @@ module _ (g : Aim) (f : Facts) (whole : Past) (k : IsAim g f whole) where
           }))
 
   by_slot_so : (o : Slot) (h : Past) (s : State) (seat : Seat) (time : ℕ) (b : Content) → slot_at s.ports.conns seat ≡ o → seat.app < s.ports.conns.apps → seat.slot < SLOTS → stalled_at s.ports seat.app ≡ None → s.out ≡ None
-      → IsUntraced (item.Packet seat.slot b) → Stands g f h s.ports s.out → Serves h seat.app (item.Packet seat.slot b) (by_slot o f s seat time b)
+      → IsUntraced (item.Packet seat.slot b) → Stands g f h s.ports s.out → Serves h seat.app (item.Packet seat.slot b) (by_slot o (router f s) seat time b)
   by_slot_so has.Free h s seat time b there few low free empty untraced w = quiet_packet h seat.app seat.slot b (discarded s why.NoConn b) (discarded_unsent why.NoConn) (stands_discarded g f whole k h s why.NoConn b w)
   by_slot_so has.Held h s seat time b there few low free empty untraced w = quiet_packet h seat.app seat.slot b (discarded s why.NoConn b) (discarded_unsent why.NoConn) (stands_discarded g f whole k h s why.NoConn b w)
   by_slot_so (has.Open c) h s seat time b there few low free empty untraced w = by_connection_so (is_reliable (terms_at s.ports seat).flags) c h s seat time b there refl few low free empty untraced w
 
   by_mark_so : (unmarked : Bool) (h : Past) (s : State) (app mark time : ℕ) (b : Content) → (mark == UNMARKED) ≡ unmarked → app < s.ports.conns.apps → IsUpItem (item.Packet mark b) → stalled_at s.ports app ≡ None → s.out ≡ None
-      → IsUntraced (item.Packet mark b) → g.comes (item.Packet mark b) → Stands g f h s.ports s.out → Serves h app (item.Packet mark b) (by_mark unmarked f s app mark time b)
+      → IsUntraced (item.Packet mark b) → g.comes (item.Packet mark b) → Stands g f h s.ports s.out → Serves h app (item.Packet mark b) (by_mark unmarked (router f s) (seat app mark) time b)
   by_mark_so true h s app mark time b e few up free empty untraced comes w =
       let good = k.unmarked mark b e (ap (λ x. x.tag) untraced) comes in
       let off = sent_off ((header_at b.header).dst == f.addr) (route_of s.routes (header_at b.header).dst) s b empty good in
       quiet_packet h app mark b (sent f s b) off.unsent (stands_sent g f whole k h s b w good)
   by_mark_so false h s app mark time b e few up free empty untraced comes w =
       let marked : mark ≢ UNMARKED = λ is. absurd (let same : (mark == UNMARKED) ≡ true = eq-eqb mark UNMARKED is in cc) in
-      by_slot_so (slot_at s.ports.conns app mark) h s app mark time b refl few (up marked).0 free empty untraced w
+      by_slot_so (slot_at s.ports.conns (seat app mark)) h s (seat app mark) time b refl few (up marked).0 free empty untraced w
 
   -- ---- a request
   requested_so : (n : Note) (h : Past) (s : State) (app time : ℕ) → app < s.ports.conns.apps → IsUpItem (item.Note n) → stalled_at s.ports app ≡ None → g.comes (item.Note n) → Stands g f h s.ports s.out → Quietly g f whole k h (requested f s app time n)

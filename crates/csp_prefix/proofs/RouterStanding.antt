@@ -1,6 +1,7 @@
 -- what holds of a router between two steps, for what is to be known of its connections
 use Rattle.std.proofs.Common.{◌≡◌, ◌⊎◌, ℕ, ◌<◌, ◌==◌, Bool, true, false, Option, None, Some, List, [], ◌∷◌, refl, sym, ap, ◌∙◌, subst}
 use Rattle.std.specs.Prelude.{⊤}
+use Rattle.csp_base.specs.Seat.{seat}
 use Rattle.csp_base.specs.declared.seat.Seat.{Seat}
 use Rattle.csp_buffer.specs.Content.{Content}
 use Rattle.csp_conn.specs.PlainConns.{slot_at}

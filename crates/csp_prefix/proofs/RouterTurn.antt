@@ -4,6 +4,7 @@ use Rattle.std.specs.Prelude.{is_some, ⊤}
 use Rattle.std.specs.List.{AllByRecursion}
 use Rattle.std.proofs.lemmas.Bool.{eqb-false, leb-true}
 use Rattle.std.proofs.lemmas.List.{append-nil, append_assoc}
+use Rattle.csp_base.specs.Seat.{seat}
 use Rattle.csp_base.specs.declared.seat.Seat.{Seat}
 use Rattle.csp_buffer.specs.Content.{Content}
 use Rattle.csp_buffer.specs.PlainBuffer.{PlainBuffer}
@@ -55,7 +56,7 @@ use Rattle.csp_prefix.specs.Ports.{AreGood, Answers, with_book, with_down}
 use Rattle.csp_prefix.specs.Prefix.{IsBeginning}
 use Rattle.csp_prefix.specs.Routers.{ComesSo}
 use Rattle.csp_prefix.specs.Slots.{blank}
-use Rattle.csp_prefix.proofs.RouterBooks.{Past, down_on, freed_on, no_openings, no_openings_of, ordinals_freed, past_after, past_same, tells_down, tells_freed, with_openings}
+use Rattle.csp_prefix.proofs.RouterBooks.{Past, one_down, freed_on, no_openings, no_openings_of, ordinals_freed, past_after, past_same, tells_down, tells_freed, with_openings}
 use Rattle.csp_prefix.proofs.RouterEntry.{IsQuiet, none_on, quiet_entry, split_entry}
 use Rattle.csp_prefix.proofs.RouterHeard.{Quietly, stands_heard, stands_sent}
 use Rattle.csp_prefix.proofs.RouterPlans.{IsTask, deliver_job, found_passes, make_job, serves_free, task_there}
@@ -119,9 +120,9 @@ quiet_full q i j es = record { free = free_full q i j; sent = λ a. sent_full q 
 quiet_pushed : (q : QueueId) (mark : ℕ) (b : Content) (es : List Event) → ((seat : Seat) → delivered_by seat (op.Push q (item.Packet mark b)) answer.Pushed ≡ []) → IsQuiet (op.Push q (item.Packet mark b)) answer.Pushed es
 quiet_pushed q mark b es none = record { free = λ a. refl; sent = λ a. refl; down = none }
 
-down_entry : (seat : Seat) (b : Content) (es : List Event) (h : Past) → with_openings es (down_on seat b.payload h) ≡ past_after (op.Push (queue.Down seat.app) (item.Packet seat.slot b)) answer.Pushed es h
+down_entry : (seat : Seat) (b : Content) (es : List Event) (h : Past) → with_openings es (one_down seat b.payload h) ≡ past_after (op.Push (queue.Down seat.app) (item.Packet seat.slot b)) answer.Pushed es h
 down_entry seat b es h =
-    past_same (with_openings es (down_on seat b.payload h)) (past_after (op.Push (queue.Down seat.app) (item.Packet seat.slot b)) answer.Pushed es h)
+    past_same (with_openings es (one_down seat b.payload h)) (past_after (op.Push (queue.Down seat.app) (item.Packet seat.slot b)) answer.Pushed es h)
     (λ a. refl) (λ a o. sym (append-nil _) ∙ ap (λ xs. h.sent a o ++ xs) (none_on (h.ends a == o) [] refl)) (λ a o. refl) (λ a. refl) refl
 
 -- the push of an answer
@@ -177,7 +178,7 @@ module _ (g : Aim) (f : Facts) (whole : Past) (k : IsAim g f whole) where
   push_so (queue.Tx x) mark b h p w = (unmoved (op.Push (queue.Tx x) (item.Packet mark b)) answer.Pushed h p None (quiet_pushed (queue.Tx x) mark b [] (λ a. refl)) (no_out h p _ w), tt)
   push_so (queue.Rx x) mark b h p w = (unmoved (op.Push (queue.Rx x) (item.Packet mark b)) answer.Pushed h p None (quiet_pushed (queue.Rx x) mark b [] (λ a. refl)) (no_out h p _ w), tt)
   push_so (queue.Down app) mark b h p w = (
-    subst (λ x. Stands g f x p None) (no_openings (down_on (seat app mark) b.payload h) ∙ down_entry (seat app mark) b [] h) (record {
+    subst (λ x. Stands g f x p None) (no_openings (one_down (seat app mark) b.payload h) ∙ down_entry (seat app mark) b [] h) (record {
       numbering = w.numbering;
       books = with_down (seat app mark) b.payload w.books;
       good = good_plain g f whole k w.numbering h.ends w.books p (seat app mark) (record (w.books (seat app mark)) { down = (w.books (seat app mark)).down ++ b.payload ∷ [] }) w.out.2 refl w.good;
@@ -255,11 +256,12 @@ module _ (g : Aim) (f : Facts) (whole : Past) (k : IsAim g f whole) where
   answered_so : (n : Note) (app : ℕ) (c : Came) (h : Past) (p : PlainPorts) (w : Stands g f h p None) → app < p.conns.apps → IsReply n → Answers g.is w.numbering h.ends w.books p.conns.apps (record { app = app; note = n }) c
       → Stands g f (past_after (op.Push (queue.Down app) (item.Note n)) answer.Pushed [] h) c.ports None
   answered_so (note.Closed slot) app c h p w few reply a =
-      subst (λ x. Stands g f x c.ports None) (freed_entry seat h) (record {
+      let freed : Seat = seat app slot in
+      subst (λ x. Stands g f x c.ports None) (freed_entry freed h) (record {
         numbering = w.numbering;
-        books = with_book seat blank w.books;
-        good = subst (λ o. AreGood g.is w.numbering o (with_book seat blank w.books) c.ports) (ordinals_freed seat h) a.good;
-        tells = tells_freed g.over f.apps w.numbering h w.books seat (λ how e. over_present g f whole k h w.numbering w.books p seat how w.good few reply e) w.tells;
+        books = with_book freed blank w.books;
+        good = subst (λ o. AreGood g.is w.numbering o (with_book freed blank w.books) c.ports) (ordinals_freed freed h) a.good;
+        tells = tells_freed g.over f.apps w.numbering h w.books freed (λ how e. over_present g f whole k h w.numbering w.books p freed how w.good few reply e) w.tells;
         apps = a.same ∙ w.apps;
         out = tt;
       })
@@ -325,7 +327,7 @@ module _ (g : Aim) (f : Facts) (whole : Past) (k : IsAim g f whole) where
       let c : Came = delivered time seat (without_packet seat q) in
       let came = k.ports.delivers v.numbering h.ends v.books q seat time b few low e v.good in
       subst (λ x. Stands g f x c.ports s.out) (down_entry seat b.picture c.events h)
-      (stands_came g f (down_on seat b.picture.payload h) s.ports.conns.apps s.out v.numbering (with_down seat b.picture.payload v.books) c w.apps (tells_down g.over f.apps v.numbering h v.books seat b.picture.payload v.tells)
+      (stands_came g f (one_down seat b.picture.payload h) s.ports.conns.apps s.out v.numbering (with_down seat b.picture.payload v.books) c w.apps (tells_down g.over f.apps v.numbering h v.books seat b.picture.payload v.tells)
       (subst (IsOut g f.apps (with_down seat b.picture.payload v.books)) (sym empty) tt) came)
   delivering_so seat b h s time (answer.Full i) few low e empty w fits =
       let v = turned_stands seat h s.ports s.out w in
@@ -364,7 +366,7 @@ module _ (g : Aim) (f : Facts) (whole : Past) (k : IsAim g f whole) where
       let good : g.good x = k.makes h v.numbering v.books q seat time j b known.0.connection (part_before op.Take (answer.Taken b) (after_told s time (plan.Make seat j) (answer.Taken b)).events h whole part) v.tells (v.good.counted seat few low) known.0.there known.1 so e in
       let u : Stands g f h (making j time seat q) s.out = record { numbering = v.numbering; books = v.books; good = k.ports.makes v.numbering h.ends v.books q seat time j few low e v.good; tells = v.tells; apps = v.apps; out = v.out } in
       let done = stands_sent g f whole k h (record t { ports = making j time seat q }) x u good in (
-        subst (λ o. AllByRecursion g.fresh (made_on o j f t seat time b).events → Stands g f (past_after op.Take (answer.Taken b) (made_on o j f t seat time b).events h) (made_on o j f t seat time b).state.ports (made_on o j f t seat time b).state.out)
+        subst (λ o. AllByRecursion g.fresh (made_on o (seat, j) (router f t) time b).events → Stands g f (past_after op.Take (answer.Taken b) (made_on o (seat, j) (router f t) time b).events h) (made_on o (seat, j) (router f t) time b).state.ports (made_on o (seat, j) (router f t) time b).state.out)
             (sym known.0.there) (quietly op.Take (answer.Taken b) h (sent f (record t { ports = making j time seat q }) x) (quiet_take (answer.Taken b) (sent f (record t { ports = making j time seat q }) x).events) done) fresh,
         tt,
       )
@@ -373,14 +375,14 @@ module _ (g : Aim) (f : Facts) (whole : Past) (k : IsAim g f whole) where
   turn_make seat j h s time a so few low e empty w = λ fits comes hears part fresh. absurd fits
 
   -- ---- the jobs, by which is owed
-  turn_task : (x : Task) (seat : Seat) (h : Past) (s : State) (time : ℕ) (a : AnswerShown) → FoundSo time s.ports → IsTask time s.ports (seat.app, seat.slot, x) → s.out ≡ None → Stands g f h s.ports s.out → Turns h s time (plan_for seat x) a
+  turn_task : (x : Task) (seat : Seat) (h : Past) (s : State) (time : ℕ) (a : AnswerShown) → FoundSo time s.ports → IsTask time s.ports (seat, x) → s.out ≡ None → Stands g f h s.ports s.out → Turns h s time (plan_for seat x) a
   turn_task task.Tell seat h s time a so is empty w = turn_tell seat h s time a w
   turn_task task.Deliver seat h s time a so is empty w = turn_deliver (delivery (machine_at s.ports seat)) seat h s time a is.app_there is.slot_there refl (deliver_job time s.ports seat is.is_task) empty w
   turn_task (task.Make j) seat h s time a so is empty w = turn_make seat j h s time a (so seat j (subst (λ n. seat.app < n) w.apps is.app_there) is.slot_there (make_job time s.ports seat j is.is_task)) is.app_there is.slot_there (make_job time s.ports seat j is.is_task) empty w
 
-  turn_jobs : (owed : List Owed) (o : Option (ℕ × ℕ × Task)) (h : Past) (s : State) (time : ℕ) (a : AnswerShown) → FoundSo time s.ports → s.ports.owed ≡ owed → next_task time s.ports ≡ o → s.out ≡ None → Stands g f h s.ports s.out → Turns h s time (jobs_by owed o) a
+  turn_jobs : (owed : List Owed) (o : Option (Seat × Task)) (h : Past) (s : State) (time : ℕ) (a : AnswerShown) → FoundSo time s.ports → s.ports.owed ≡ owed → next_task time s.ports ≡ o → s.out ≡ None → Stands g f h s.ports s.out → Turns h s time (jobs_by owed o) a
   turn_jobs (o ∷ os) t h s time a so e q empty w = turn_reply o os h s time a e empty w
-  turn_jobs [] (Some t) h s time a so e q empty w = turn_task t.2 t.0 t.1 h s time a so (task_there time s.ports t q) empty w
+  turn_jobs [] (Some t) h s time a so e q empty w = turn_task t.1 t.0 h s time a so (task_there time s.ports t q) empty w
   turn_jobs [] None h s time a so e q empty w = turn_rest h s time a w
 
   -- ---- the work that was found

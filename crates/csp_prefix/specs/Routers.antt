@@ -64,7 +64,7 @@ pub record IsFlowOf (es : List Entry) (app nth : ℕ) (x : Opening) : Type 0 whe
 
 -- each reliable connection of a node has a number of its own
 abbrev pub AreNumbered : List Entry → Type 0
-AreNumbered es = (app other nth : ℕ) (x y : Opening) → IsFlowOf es app nth x → IsFlowOf es other nth y → (app ≡ other) × (x.slot ≡ y.slot) × (x.ordinal ≡ y.ordinal)
+AreNumbered es = (app other nth : ℕ) (x y : Opening) → IsFlowOf es app nth x → IsFlowOf es other nth y → (seat app x.slot ≡ seat other y.slot) × (x.ordinal ≡ y.ordinal)
 
 -- each connection that became open is of an application that the node has, on one of its slots
 abbrev pub ArePlaced : Facts → List Entry → Type 0
