@@ -7,7 +7,7 @@ use Rattle.std.specs.Str.{bytes_eq}
 use Rattle.std.proofs.lemmas.Option.{slice_get_within}
 use Rattle.std.proofs.lemmas.Slice.Eq.{bytes_eq-Decides}
 use Rattle.csp_base.specs.Priority.{prio_number}
-use Rattle.csp_base.specs.declared.traces.OwnFlows.{OwnFlows}
+use Rattle.csp_base.specs.declared.traces.Origin.{Origin}
 use Rattle.csp_bridge.specs.PlainBridge as plain_bridge
 use Rattle.csp_buffer.specs.Content.{Content}
 use Rattle.csp_log.specs.declared.entry.Entry.{Entry}
@@ -128,13 +128,13 @@ module _ (scene : PlainScene) (r : PlainRecord) (is : IsScene scene) (con : IsCo
       (run_of scene r (who.Iface node number) (an_iface (iface_opening node number at.link.kind at.link.mtu (heeded at.node.addr at.link))) l at.party)
       (through (Below n) r (out_lane node (leader_of node at.node.addr) number) lane (hub_below n node number at.node.addr (hear node at.node at.there)))
 
-  sent_below : (n : ℕ) → HearBelow n → (o : OwnFlows) (sent : Content) → transmission r o ≡ Some sent → IsBelow n sent
+  sent_below : (n : ℕ) → HearBelow n → (o : Origin) (sent : Content) → transmission r o ≡ Some sent → IsBelow n sent
   sent_below n hear o sent shown =
       first_given (IsBelow n) (shown_in o.serial) (iface_entries r.parties o.node o.iface) sent shown
       (subst (AllByRecursion (λ (e : Entry). (b : Content) → shown_in o.serial e ≡ Some b → IsBelow n b)) (sym (iface_entries_in r.parties o.node o.iface))
       (shows_below n o.node o.iface o.serial hear (logged scene r (who.Iface o.node o.iface) con.runs)))
 
-  as_sent : (n : ℕ) → HearBelow n → (b : Content) (o : OwnFlows) (sent : Content) → option_and_then (transmission r) b.trace.origin ≡ Some sent → transmission r o ≡ Some sent → b.trace.tag ≡ sent.trace.tag
+  as_sent : (n : ℕ) → HearBelow n → (b : Content) (o : Origin) (sent : Content) → option_and_then (transmission r) b.trace.origin ≡ Some sent → transmission r o ≡ Some sent → b.trace.tag ≡ sent.trace.tag
       → b.trace.hops ≡ sent.trace.hops + 1 → is_changed r b ≡ false → IsBelow (suc n) b
   as_sent n hear b o sent named shown tag hops unchanged low =
       let both : ((b.header == sent.header) ≡ true) × (bytes_eq b.payload sent.payload ≡ true) = both_hold (b.header == sent.header) (bytes_eq b.payload sent.payload) (sym (ap (λ x. differs x b) named) ∙ unchanged) in

@@ -77,10 +77,10 @@ own_job apps seat task.Tell = tt
 own_job apps seat task.Deliver = tt
 own_job apps seat (task.Make j) = tt
 
-own_jobs : (apps : ℕ) (owed : List Owed) (t : Option (ℕ × ℕ × Task)) → PlansOwn apps (jobs_by owed t)
+own_jobs : (apps : ℕ) (owed : List Owed) (t : Option (Seat × Task)) → PlansOwn apps (jobs_by owed t)
 own_jobs apps (_ ∷ _) t = tt
 own_jobs apps [] None = tt
-own_jobs apps [] (Some t) = own_job apps t.0 t.1 t.2
+own_jobs apps [] (Some t) = own_job apps t.0 t.1
 
 own_work : (apps k : ℕ) (s : State) (time : ℕ) (first within : Bool) → (k == 0) ≡ first → nat_le k apps ≡ within
     → PlansOwn apps (work_at s time (cond first source.Inbox (cond within (source.App (k - 1)) source.Jobs)))

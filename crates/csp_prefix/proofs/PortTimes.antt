@@ -4,6 +4,7 @@ use Rattle.std.specs.List.{AllByRecursion, range_with_len}
 use Rattle.std.proofs.Common.{◌≡◌, ◌⊎◌, inl, inr, ℕ, zero, suc, ◌+◌, ◌*◌, ◌/◌, ◌%◌, ◌<◌, List, [], ◌∷◌, arith, refl, sym, subst}
 use Rattle.csp_base.specs.declared.seat.Seat.{Seat}
 use Rattle.csp_base.specs.declared.limits.TheConstants.{SLOTS}
+use Rattle.csp_conn.specs.PlainConns.{seat_of}
 use Rattle.csp_ports.specs.PlainPorts.{PlainPorts, has_machine, machine_at}
 use Rattle.csp_ports.specs.Steps.{dropped, dropped_of, timed, timed_at, timed_in, went}
 use Rattle.csp_ports.specs.declared.flows.OwnFlows.{OwnFlows}
@@ -133,17 +134,17 @@ abbrev Before : ℕ → ℕ → Type 0
 Before n k = k < n
 
 module _ {o : OwnFlows} {C : Coming} {Is : Numbering → Seat → Now → Type 0} (kept : IsKept o C Is) {m : Numbering} {ordinals : Ordinals} (time apps : ℕ) where
-  timed_one : {books : Books} {p : PlainPorts} (k : ℕ) → k < apps * 4 → p.conns.apps ≡ apps → AreFine Is Never m ordinals books p → Leaves Is Never m ordinals books apps (timed_at time (k / SLOTS) (k % SLOTS) p)
+  timed_one : {books : Books} {p : PlainPorts} (k : ℕ) → k < apps * 4 → p.conns.apps ≡ apps → AreFine Is Never m ordinals books p → Leaves Is Never m ordinals books apps (timed_at time (seat_of k) p)
   timed_one {books} {p} k below same h =
       let d = divides k apps below in
-      subst (λ (n : ℕ). Leaves Is Never m ordinals books n (timed_at time (k / SLOTS) (k % SLOTS) p)) same
-      (timed_leaves kept time (k / SLOTS) (k % SLOTS) (subst (λ (n : ℕ). k / SLOTS < n) (sym same) d.0) d.1 h)
+      subst (λ (n : ℕ). Leaves Is Never m ordinals books n (timed_at time (seat_of k) p)) same
+      (timed_leaves kept time (seat_of k) (subst (λ (n : ℕ). k / SLOTS < n) (sym same) d.0) d.1 h)
 
   timed_all : (ks : List ℕ) {books : Books} {p : PlainPorts} → AllByRecursion (λ k. k < apps * 4) ks → p.conns.apps ≡ apps → AreFine Is Never m ordinals books p → Leaves Is Never m ordinals books apps (timed_in time ks p)
   timed_all [] below same h = record { same = same; new = tt; fine = h }
   timed_all (k ∷ ks) {books} {p} below same h =
-      let first : Leaves Is Never m ordinals books apps (timed_at time (k / SLOTS) (k % SLOTS) p) = timed_one k below.0 same h in
-      then_leaves (timed_at time (k / SLOTS) (k % SLOTS) p) (timed_in time ks) first (timed_all ks below.1 first.same first.fine)
+      let first : Leaves Is Never m ordinals books apps (timed_at time (seat_of k) p) = timed_one k below.0 same h in
+      then_leaves (timed_at time (seat_of k) p) (timed_in time ks) first (timed_all ks below.1 first.same first.fine)
 
   dropped_one : {books : Books} {p : PlainPorts} (a : ℕ) → a < apps → p.conns.apps ≡ apps → AreFine Is (Before a) m ordinals books p → Leaves Is (Before (a + 1)) m ordinals books apps (dropped a p)
   dropped_one {books} {p} a below same h =

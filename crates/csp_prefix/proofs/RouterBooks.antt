@@ -266,7 +266,7 @@ module _ (Over : Numbering → ℕ → Opening → List (List ℕ) → Type 0) (
           over = i.over;
         }) (t.told a);
     back = λ a which. book_at (λ a b. b.opened ≡ Some which → IsAmong (opening_on a (h.ends a) which) (h.opened a.app)) s _ books a (t.back s which) (λ differ. t.back a which);
-    sent = by_seat s (λ a here. with_sent_if here a ≡ h.sent a (h.ends a) ++ (if h.ends a == h.ends a then (if here then payload ∷ [] else []) else []))
+    sent = by_seat s (λ a here. (if here then record (books s) { sent = (books s).sent ++ payload ∷ [] } else books a).sent ≡ h.sent a (h.ends a) ++ (if h.ends a == h.ends a then (if here then payload ∷ [] else []) else []))
         (rw (eq-eqb (h.ends s) (h.ends s) refl) (ap (λ xs. xs ++ payload ∷ []) (t.sent s)))
         (λ a differ. rw (eq-eqb (h.ends a) (h.ends a) refl) (t.sent a ∙ sym (append-nil _)));
     down = λ a. book_at (λ a b. b.down ≡ h.down a (h.ends a)) s _ books a (t.down s) (λ differ. t.down a);
@@ -274,9 +274,6 @@ module _ (Over : Numbering → ℕ → Opening → List (List ℕ) → Type 0) (
     later_down = t.later_down;
     goes_on = t.goes_on;
   }
-    where
-      abbrev with_sent_if : Bool → Seat → List (List ℕ)
-      with_sent_if here a = (if here then record (books s) { sent = (books s).sent ++ payload ∷ [] } else books a).sent
 
   pub tells_down : (h : Past) (books : Books) (s : Seat) (payload : List ℕ) → Tells Over apps m h books → Tells Over apps m (one_down s payload h) (with_down s payload books)
   tells_down h books s payload t = record {
@@ -291,18 +288,18 @@ module _ (Over : Numbering → ℕ → Opening → List (List ℕ) → Type 0) (
         }) (t.told a);
     back = λ a which. book_at (λ a b. b.opened ≡ Some which → IsAmong (opening_on a (h.ends a) which) (h.opened a.app)) s _ books a (t.back s which) (λ differ. t.back a which);
     sent = λ a. book_at (λ a b. b.sent ≡ h.sent a (h.ends a)) s _ books a (t.sent s) (λ differ. t.sent a);
-    down = by_seat s (λ a here. with_down_if here a ≡ h.down a (h.ends a) ++ (if h.ends a == h.ends a then (if here then payload ∷ [] else []) else []))
+    down = by_seat s (λ a here. (if here then record (books s) { down = (books s).down ++ payload ∷ [] } else books a).down ≡ h.down a (h.ends a) ++ (if h.ends a == h.ends a then (if here then payload ∷ [] else []) else []))
         (rw (eq-eqb (h.ends s) (h.ends s) refl) (ap (λ xs. xs ++ payload ∷ []) (t.down s)))
         (λ a differ. rw (eq-eqb (h.ends a) (h.ends a) refl) (t.down a ∙ sym (append-nil _)));
     later_sent = t.later_sent;
     later_down = λ a o lt. rw (t.later_down a o lt) (none_on (h.ends a) o _ (λ is. omega (arith, lt, is)));
     goes_on = t.goes_on;
   }
-    where
-      abbrev with_down_if : Bool → Seat → List (List ℕ)
-      with_down_if here a = (if here then record (books s) { down = (books s).down ++ payload ∷ [] } else books a).down
 
   -- ---- a slot that is freed: what is to be known of its connection is known
+  abbrev ends_if : Past → (is_freed : Bool) → Seat → ℕ
+  ends_if h is_freed a = if is_freed then h.ends a + 1 else h.ends a
+
   pub over_now : (h : Past) (books : Books) (s : Seat) (x : Opening) → ((how : Option ℕ × Option (ℕ × ℕ)) → (books s).opened ≡ Some how → Over m s.app (opening_on s (h.ends s) how) (books s).down)
       → (books s).down ≡ h.down s (h.ends s) → s.slot ≡ x.slot → x.ordinal ≤ h.ends s
       → (x.ordinal ≡ h.ends s → (books s).opened ≡ Some (x.nth, x.peer)) → (x.ordinal < h.ends s → Over m s.app x (h.down s x.ordinal)) → Over m s.app x (h.down s x.ordinal)
@@ -322,36 +319,27 @@ module _ (Over : Numbering → ℕ → Opening → List (List ℕ) → Type 0) (
   told_freed h books s ends is a x i = record {
     app_there = i.app_there;
     slot_there = i.slot_there;
-    reached = by_seat s (λ a here. x.ordinal ≤ h.ends a → x.ordinal ≤ ends_if here a) (λ le. omega (arith, le)) (λ a differ le. le) (seat a x.slot) i.reached;
-    present = by_seat s (λ a here. x.ordinal ≤ h.ends a → IsPresent a → x.ordinal ≡ ends_if here a → (if here then blank else books a).opened ≡ Some (x.nth, x.peer))
+    reached = by_seat s (λ a here. x.ordinal ≤ h.ends a → x.ordinal ≤ ends_if h here a) (λ le. omega (arith, le)) (λ a differ le. le) (seat a x.slot) i.reached;
+    present = by_seat s (λ a here. x.ordinal ≤ h.ends a → (x.ordinal ≡ h.ends a → (books a).opened ≡ Some (x.nth, x.peer)) → x.ordinal ≡ ends_if h here a → (if here then blank else books a).opened ≡ Some (x.nth, x.peer))
         (λ le was e. absurd (omega (arith, le, e))) (λ a differ le was. was) (seat a x.slot) i.reached i.present;
-    over = by_seat s (λ a here. a.slot ≡ x.slot → x.ordinal ≤ h.ends a → IsPresent a → (x.ordinal < h.ends a → Over m a.app x (h.down a x.ordinal)) → x.ordinal < ends_if here a → Over m a.app x (h.down a x.ordinal))
+    over = by_seat s (λ a here. a.slot ≡ x.slot → x.ordinal ≤ h.ends a → (x.ordinal ≡ h.ends a → (books a).opened ≡ Some (x.nth, x.peer)) → (x.ordinal < h.ends a → Over m a.app x (h.down a x.ordinal)) → x.ordinal < ends_if h here a → Over m a.app x (h.down a x.ordinal))
         (λ same le was over lt. over_now h books s x ends is same le was over) (λ a differ same le was over. over) (seat a x.slot) refl i.reached i.present i.over;
   }
-    where
-      abbrev ends_if : Bool → Seat → ℕ
-      ends_if here a = if here then h.ends a + 1 else h.ends a
-
-      abbrev IsPresent : Seat → Type 0
-      IsPresent a = x.ordinal ≡ h.ends a → (books a).opened ≡ Some (x.nth, x.peer)
 
   pub tells_freed : (h : Past) (books : Books) (s : Seat) → ((how : Option ℕ × Option (ℕ × ℕ)) → (books s).opened ≡ Some how → Over m s.app (opening_on s (h.ends s) how) (books s).down)
       → Tells Over apps m h books → Tells Over apps m (freed_on s h) (with_book s blank books)
   tells_freed h books s ends t = record {
     told = λ a. AllByRecursion-map (IsTold Over apps m h books a) _ (h.opened a) (told_freed h books s ends (t.down s) a) (t.told a);
-    back = λ a which. by_seat s (λ a here. (if here then blank else books a).opened ≡ Some which → IsAmong (opening_on a (ends_if here a) which) (h.opened a.app)) (λ e. absurd cc) (λ a differ. t.back a which) a;
-    sent = by_seat s (λ a here. (if here then blank else books a).sent ≡ h.sent a (ends_if here a)) (sym (t.later_sent s (h.ends s + 1) (omega arith))) (λ a differ. t.sent a);
-    down = by_seat s (λ a here. (if here then blank else books a).down ≡ h.down a (ends_if here a)) (sym (t.later_down s (h.ends s + 1) (omega arith))) (λ a differ. t.down a);
+    back = λ a which. by_seat s (λ a here. (if here then blank else books a).opened ≡ Some which → IsAmong (opening_on a (ends_if h here a) which) (h.opened a.app)) (λ e. absurd cc) (λ a differ. t.back a which) a;
+    sent = by_seat s (λ a here. (if here then blank else books a).sent ≡ h.sent a (ends_if h here a)) (sym (t.later_sent s (h.ends s + 1) (omega arith))) (λ a differ. t.sent a);
+    down = by_seat s (λ a here. (if here then blank else books a).down ≡ h.down a (ends_if h here a)) (sym (t.later_down s (h.ends s + 1) (omega arith))) (λ a differ. t.down a);
     later_sent = λ a o lt. t.later_sent a o (earlier o a lt);
     later_down = λ a o lt. t.later_down a o (earlier o a lt);
     goes_on = t.goes_on;
   }
     where
-      abbrev ends_if : Bool → Seat → ℕ
-      ends_if here a = if here then h.ends a + 1 else h.ends a
-
-      earlier : (o : ℕ) (a : Seat) → ends_if (is_same s a) a < o → h.ends a < o
-      earlier o a = by_seat s (λ a here. ends_if here a < o → h.ends a < o) (λ lt. omega (arith, lt)) (λ a differ lt. lt) a
+      earlier : (o : ℕ) (a : Seat) → ends_if h (is_same s a) a < o → h.ends a < o
+      earlier o a = by_seat s (λ a here. ends_if h here a < o → h.ends a < o) (λ lt. omega (arith, lt)) (λ a differ lt. lt) a
 
 pub ordinals_freed : (s : Seat) (h : Past) → with_ordinal s (h.ends s + 1) h.ends ≡ (freed_on s h).ends
 ordinals_freed s h = fun_ext (by_seat s (λ a here. (if here then h.ends s + 1 else h.ends a) ≡ (if here then h.ends a + 1 else h.ends a)) refl (λ a differ. refl))

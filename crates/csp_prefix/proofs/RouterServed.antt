@@ -44,8 +44,8 @@ use Rattle.csp_socket.specs.Bound.{owner_of}
 use Rattle.csp_socket.specs.declared.sockets.TheConstants.{BINDABLE_PORTS}
 use Rattle.csp_stack.specs.Readings.{is_checked}
 use Rattle.csp_stack.specs.Router.{Facts, State, flows_of, router}
-use Rattle.csp_stack.specs.Rules.{addressed, by_mark, by_slot, header_for, ported, requested, sent, sent_by, sent_on, served}
-use Rattle.csp_stack.specs.Told.{Told, discarded}
+use Rattle.csp_stack.specs.Rules.{addressed, by_mark, by_slot, header_for, requested, sent, sent_by, sent_on, served}
+use Rattle.csp_stack.specs.Told.{Told, discarded, ported}
 use Rattle.csp_prefix.specs.Ports.{AreGood, Books, IsInUse, IsSlot, Submits, is_same, now_at, with_sent}
 use Rattle.csp_prefix.specs.Routers.{IsUntraced}
 use Rattle.csp_prefix.proofs.RouterBooks.{Past, Tells, ends_of, no_openings_of, one_sent, past_after, past_same, tells_sent}
@@ -201,12 +201,12 @@ module _ (g : Aim) (f : Facts) (whole : Past) (k : IsAim g f whole) where
       stands_unchanged g f whole k h (record s { ports = bind s.ports app port need })
       (record { numbering = w.numbering; books = w.books; good = k.ports.binds w.numbering h.ends w.books s.ports app port need few w.good; tells = w.tells; apps = bind_apps ∙ w.apps; out = w.out })
     where
-      either : (b : Bool) {x y : PlainPorts} → x.conns.apps ≡ s.ports.conns.apps → y.conns.apps ≡ s.ports.conns.apps → (if b then x else y).conns.apps ≡ s.ports.conns.apps
-      either true e q = e
-      either false e q = q
+      either : (b : Bool) (x y : PlainPorts) → x.conns.apps ≡ s.ports.conns.apps → y.conns.apps ≡ s.ports.conns.apps → (if b then x else y).conns.apps ≡ s.ports.conns.apps
+      either true x y e q = e
+      either false x y e q = q
 
       bind_apps : (bind s.ports app port need).conns.apps ≡ s.ports.conns.apps
-      bind_apps = either (nat_lt port BINDABLE_PORTS) (either (is_some (owner_of s.ports.bound port)) refl refl) refl
+      bind_apps = either (nat_lt port BINDABLE_PORTS) _ _ (either (is_some (owner_of s.ports.bound port)) _ _ refl refl) refl
   requested_so (note.Connect slot dest port prio flags from) h s app time few up free comes w =
       let r : Request = record { seat = seat app slot; dest = dest; port = port; prio = prio; flags = flags; from = from } in
       let done = k.ports.connects w.numbering h.ends w.books s.ports r time few up (k.wishes s.ports r comes) w.good in

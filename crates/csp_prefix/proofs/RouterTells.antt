@@ -113,7 +113,7 @@ pub record IsOfPopped (f : Facts) (p : PlainPorts) (o : OpShown) (a : AnswerShow
 -- what a turn with this operation and this answer may tell
 abbrev pub TellsAt : Facts → PlainPorts → OpShown → AnswerShown → Event → Type 0
 TellsAt f p o a (event.Handed nth peer tag cur una) = IsOfPopped f p o a (event.Handed nth peer tag cur una)
-TellsAt f p o a (event.Opened app slot nth peer) = (nth ≡ None) ⊎ IsEarly (machine_at p seat).state
+TellsAt f p o a (event.Opened app slot nth peer) = (nth ≡ None) ⊎ IsEarly (machine_at p (seat app slot)).state
 TellsAt f p o a _ = ⊤
 
 -- no packet is told to be handed to a reliable connection, and none to be open

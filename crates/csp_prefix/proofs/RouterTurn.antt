@@ -43,7 +43,7 @@ use Rattle.csp_record.specs.Payloads.{carried, told_on}
 use Rattle.csp_record.specs.declared.payloads.Transfer.TheVariants as way
 use Rattle.csp_stack.specs.Counting.{came_in, was_full}
 use Rattle.csp_stack.specs.Readings.{buffer_in}
-use Rattle.csp_stack.specs.Router.{Facts, Leaving, State, at_rest}
+use Rattle.csp_stack.specs.Router.{Facts, Leaving, State, at_rest, router}
 use Rattle.csp_stack.specs.Rules.{Arrival, addressed, arrival, heard, made_on, packet_in, sent}
 use Rattle.csp_stack.specs.Sources.{circle, has_work, place_with_work, source_at}
 use Rattle.csp_stack.specs.Told.{Told, kept}
