@@ -19,7 +19,7 @@ use Rattle.csp_ports.specs.Asking.{asking, connect, joined, linked, plain, unjoi
 use Rattle.csp_ports.specs.Asking.{is_reliable}
 use Rattle.csp_ports.specs.Came.{Came, come}
 use Rattle.csp_ports.specs.Packets.{accepted, invited}
-use Rattle.csp_ports.specs.PlainPorts.{PlainPorts, begun, owing, start_of, terms_at}
+use Rattle.csp_ports.specs.PlainPorts.{PlainPorts, begun, start_of, terms_at}
 use Rattle.csp_ports.specs.Steps.{replaced}
 use Rattle.csp_ports.specs.declared.handing.Invitation.{Invitation}
 use Rattle.csp_ports.specs.declared.flows.OwnFlows.{OwnFlows}

@@ -1,5 +1,4 @@
 -- every step of the ports keeps what is known of each connection
-use Rattle.std.proofs.Common.{ℕ}
 use Rattle.csp_base.specs.declared.seat.Seat.{Seat}
 use Rattle.csp_ports.specs.declared.flows.OwnFlows.{OwnFlows}
 use Rattle.csp_prefix.proofs.PortAnswers.{answered_answers}

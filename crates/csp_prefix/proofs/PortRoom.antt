@@ -18,7 +18,7 @@ use Rattle.csp_rdp.specs.declared.answers.State.{State}
 use Rattle.csp_rdp.specs.declared.answers.State.TheVariants.{Closed, CloseWait, Open, SynRcvd, SynSent}
 use Rattle.csp_prefix.proofs.PortChanges.{use_fine}
 use Rattle.csp_prefix.proofs.PortFacts.{All, IsReliable, IsResting, Leaves, either}
-use Rattle.csp_prefix.proofs.PortSlots.{AreFine, AreFineBut, IsFor, look, machine_but, none_some, some_same, stalled_but, waiting_here, waiting_open, whole}
+use Rattle.csp_prefix.proofs.PortSlots.{AreFine, AreFineBut, IsFor, look, machine_but, none_some, stalled_but, waiting_here, waiting_open, whole}
 use Rattle.csp_prefix.proofs.PortViews.{View, now_of, view}
 use Rattle.csp_prefix.specs.Ports.{Books, Ordinals, waiting_on}
 use Rattle.csp_prefix.specs.Slots.{Coming, IsKept, Now, Numbering}

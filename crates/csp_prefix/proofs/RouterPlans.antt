@@ -1,5 +1,5 @@
 -- what the plan of a turn says of the ports
-use Rattle.std.proofs.Common.{◌≡◌, ℕ, ◌*◌, ◌/◌, ◌%◌, ◌<◌, ◌==◌, Bool, true, false, not, cond, nat_lt, Option, None, Some, List, [], ◌∷◌, refl, subst, arith, find}
+use Rattle.std.proofs.Common.{◌≡◌, ℕ, ◌*◌, ◌<◌, ◌==◌, Bool, true, false, not, cond, nat_lt, Option, None, Some, List, [], ◌∷◌, refl, subst, arith, find}
 use Rattle.std.specs.Prelude.{if◌then◌else◌, is_some}
 use Rattle.std.specs.Option.{option_map}
 use Rattle.std.proofs.lemmas.Bool.{and_parts, ltb-true}
