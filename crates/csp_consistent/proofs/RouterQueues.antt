@@ -1,11 +1,12 @@
 -- A router pushes to its applications, its interfaces, and without a mark to its inbox.
 use Rattle.std.proofs.Common.{ℕ, ◌==◌, Bool, true, false, cond, Option, None, Some, List, [], ◌∷◌, Result, Ok, Err, refl}
 use Rattle.std.specs.Prelude.{if◌then◌else◌, ⊤}
+use Rattle.csp_base.specs.Seat.{seat}
+use Rattle.csp_base.specs.declared.seat.Seat.{Seat}
 use Rattle.csp_buffer.specs.Content.{Content}
 use Rattle.csp_buffer.specs.PlainBuffer.{PlainBuffer}
-use Rattle.csp_conn.specs.Opening.{first_free}
+use Rattle.csp_conn.specs.Opening.{free_seat}
 use Rattle.csp_conn.specs.PlainConns.{slot_at}
-use Rattle.csp_conn.specs.declared.slot.Connection.{Connection}
 use Rattle.csp_conn.specs.declared.slot.Slot.{Slot}
 use Rattle.csp_conn.specs.declared.slot.Slot.TheVariants as slot
 use Rattle.csp_consistent.specs.Queues.{MayAsk, MayPush}
@@ -28,7 +29,7 @@ use Rattle.csp_rdp.specs.declared.jobs.Job.{Job}
 use Rattle.csp_rdp_header.specs.Head.{parted}
 use Rattle.csp_rdp_header.specs.declared.head.RdpHead.{RdpHead}
 use Rattle.csp_log.specs.declared.who.Who.TheVariants as who
-use Rattle.csp_ports.specs.PlainPorts.{machine_at}
+use Rattle.csp_ports.specs.PlainPorts.{machine_at, terms_at}
 use Rattle.csp_route.specs.Routes.{route_of}
 use Rattle.csp_route.specs.declared.row.Row.{Row}
 use Rattle.csp_service.specs.Answers.{Outcome, answered}
@@ -39,7 +40,7 @@ use Rattle.csp_stack.proofs.Public.{by_rest, heard_here}
 use Rattle.csp_stack.specs.Comes.{heard_at_port, heard_at_socket, heard_elsewhere}
 use Rattle.csp_stack.specs.Counting.{came_in, counting, was_full}
 use Rattle.csp_stack.specs.Readings.{buffer_in, is_checked, is_here, is_pushed, is_secured, item_in}
-use Rattle.csp_stack.specs.Router.{Facts, Leaving, State}
+use Rattle.csp_stack.specs.Router.{Facts, Leaving, Router, State, router}
 use Rattle.csp_stack.specs.Rules.{◌>>=◌, Arrival, Ruling, Decided, Left, packet_in}
 use Rattle.csp_stack.specs.Rules as rules
 use Rattle.csp_stack.specs.Serving.{facts_of}
@@ -93,37 +94,37 @@ go_checksum true None s p h = h
 go_checksum true (Some payload) s p h = tt
 go_checksum false payload s p h = tt
 
-go_machine : (read : Option (List ℕ × RdpHead)) (s : State) (app slot time : ℕ) (p : Arrival) → IsOutward s.out → Goes (rules.to_machine read s app slot time p)
-go_machine None s app slot time p h = h
-go_machine (Some read) s app slot time p h = h
+go_machine : (read : Option (List ℕ × RdpHead)) (s : State) (seat : Seat) (time : ℕ) (p : Arrival) → IsOutward s.out → Goes (rules.to_machine read s seat time p)
+go_machine None s seat time p h = h
+go_machine (Some read) s seat time p h = h
 
-go_connection : (s : State) (app slot time : ℕ) (p : Arrival) → IsOutward s.out → Goes (rules.to_connection s app slot time p)
-go_connection s app slot time p h =
-    go_either (is_reliable p.head.flags.0) (rules.to_machine (parted p.buffer.payload) s app slot time p) (leaving s (rules.to_slot app slot p.buffer)) (go_machine _ s app slot time p h) tt
+go_connection : (s : State) (seat : Seat) (time : ℕ) (p : Arrival) → IsOutward s.out → Goes (rules.to_connection s seat time p)
+go_connection s seat time p h =
+    go_either (is_reliable p.head.flags.0) (rules.to_machine (parted p.buffer.payload) s seat time p) (leaving s (rules.to_slot seat p.buffer)) (go_machine _ s seat time p h) tt
 
-go_by_connection : (at : Option (ℕ × ℕ)) (s : State) (time : ℕ) (p : Arrival) → IsOutward s.out → GoesBy (rules.by_connection at s time p)
+go_by_connection : (at : Option Seat) (s : State) (time : ℕ) (p : Arrival) → IsOutward s.out → GoesBy (rules.by_connection at s time p)
 go_by_connection None s time p h = tt
-go_by_connection (Some at) s time p h = go_three (rules.is_mixed s at p) (rules.is_lacking s p) (go_connection s at.0 at.1 time p h)
+go_by_connection (Some at) s time p h = go_three (rules.is_mixed s at p) (rules.is_lacking s p) (go_connection s at time p h)
   where
-    go_three : (mixed lacking : Bool) → Goes (rules.to_connection s at.0 at.1 time p) → Goes (if mixed then discarded s why.Mixed p.buffer else if lacking then discarded s why.Required p.buffer else rules.to_connection s at.0 at.1 time p)
+    go_three : (mixed lacking : Bool) → Goes (rules.to_connection s at time p) → Goes (if mixed then discarded s why.Mixed p.buffer else if lacking then discarded s why.Required p.buffer else rules.to_connection s at time p)
     go_three true lacking rest = h
     go_three false true rest = h
     go_three false false rest = rest
 
-go_accepting : (free : Option ℕ) (s : State) (app : ℕ) (p : Arrival) → IsOutward s.out → Goes (rules.accepting free s app p)
-go_accepting None s app p h = h
-go_accepting (Some slot) s app p h = tt
+go_accepting : (free : Option Seat) (s : State) (p : Arrival) → IsOutward s.out → Goes (rules.accepting free s p)
+go_accepting None s p h = h
+go_accepting (Some seat) s p h = tt
 
-go_inviting : (i : Result Invitation Discard) (free : Option ℕ) (f : Facts) (s : State) (app time : ℕ) (p : Arrival) → IsOutward s.out → Goes (rules.inviting i free f s app time p)
-go_inviting (Err reason) free f s app time p h = h
-go_inviting (Ok i) None f s app time p h = h
-go_inviting (Ok i) (Some slot) f s app time p h = h
+go_inviting : (i : Result Invitation Discard) (free : Option Seat) (r : Router) (time : ℕ) (p : Arrival) → IsOutward r.state.out → Goes (rules.inviting i free r time p)
+go_inviting (Err reason) free r time p h = h
+go_inviting (Ok i) None r time p h = h
+go_inviting (Ok i) (Some seat) r time p h = h
 
 go_opening : (app : ℕ) (f : Facts) (s : State) (time : ℕ) (p : Arrival) → IsOutward s.out → Goes (rules.opening app f s time p)
 go_opening app f s time p h =
-    let free = first_free s.ports.conns app in
+    let free = free_seat s.ports.conns app in
     let i = rules.invitation_of p.buffer in
-    go_either (is_reliable p.head.flags.0) (rules.inviting i free f s app time p) (rules.accepting free s app p) (go_inviting i free f s app time p h) (go_accepting free s app p h)
+    go_either (is_reliable p.head.flags.0) (rules.inviting i free (router f s) time p) (rules.accepting free s p) (go_inviting i free (router f s) time p h) (go_accepting free s p h)
 
 go_by_socket : (owner : Option (ℕ × ℕ)) (f : Facts) (s : State) (time : ℕ) (p : Arrival) → IsOutward s.out → GoesBy (rules.by_socket owner f s time p)
 go_by_socket None f s time p h = tt
@@ -145,24 +146,20 @@ go_heard f s time p h =
     go_on (rules.for_this_node f s p) (λ p. heard_here f s time p) (go_destination (is_here f.addr p.head) (rules.forwarded (route_of s.routes p.head.dst) s p) p (go_forwarded (route_of s.routes p.head.dst) s p h)) (λ p.
     go_on (rules.not_secured s p) (λ p. by_rest f s time p) (go_if (is_secured p.head) (discarded (counting s p.mark count.AuthErrors 1) why.Refused p.buffer) p h) (λ p.
     go_on (rules.without_checksum s p) (λ p. heard_at_port f s time p) (go_checksum (is_checked p.head) (payload_of p.buffer.payload) s p h) (λ p.
-    go_on (rules.of_no_connection s time p) (λ p. heard_at_socket f s time p) (go_by_connection (rules.slot_of s p) s time p h) (λ p.
+    go_on (rules.of_no_connection s time p) (λ p. heard_at_socket f s time p) (go_by_connection (rules.seat_for s p) s time p h) (λ p.
     go_on (rules.to_no_socket f s time p) (λ p. heard_elsewhere f s time p) (go_by_socket (rules.owner_for s p) f s time p h) (λ p.
     go_on (rules.not_reliable s p) (λ p. rules.by_service f s time p) (go_if (is_reliable p.head.flags.0) (discarded s why.NoSocket p.buffer) p h) (λ p.
     go_outcome (answered p.head.dport p.buffer.payload (facts_of f s) time) f s p h))))))
 
 -- and so does what it makes of an item of an application
-go_on_connection : (reliable : Bool) (c : Connection) (f : Facts) (s : State) (app number time : ℕ) (b : Content) → IsOutward s.out → Goes (rules.on_connection reliable c f s app number time b)
-go_on_connection false c f s app number time b h = go_sent _ _ s _ h
-go_on_connection true c f s app number time b h = h
+go_slot : (x : Slot) (r : Router) (seat : Seat) (time : ℕ) (b : Content) → IsOutward r.state.out → Goes (rules.by_slot x r seat time b)
+go_slot slot.Free r seat time b h = h
+go_slot slot.Held r seat time b h = h
+go_slot (slot.Open c) r seat time b h = go_either (is_reliable (terms_at r.state.ports seat).flags) _ (rules.sent_on c r seat b) h (go_sent _ _ r.state _ h)
 
-go_slot : (x : Slot) (f : Facts) (s : State) (app number time : ℕ) (b : Content) → IsOutward s.out → Goes (rules.by_slot x f s app number time b)
-go_slot slot.Free f s app number time b h = h
-go_slot slot.Held f s app number time b h = h
-go_slot (slot.Open c) f s app number time b h = go_on_connection _ c f s app number time b h
-
-go_mark : (unmarked : Bool) (f : Facts) (s : State) (app mark time : ℕ) (b : Content) → IsOutward s.out → Goes (rules.by_mark unmarked f s app mark time b)
-go_mark true f s app mark time b h = go_sent _ _ s b h
-go_mark false f s app mark time b h = go_slot (slot_at s.ports.conns app mark) f s app mark time b h
+go_mark : (unmarked : Bool) (r : Router) (seat : Seat) (time : ℕ) (b : Content) → IsOutward r.state.out → Goes (rules.by_mark unmarked r seat time b)
+go_mark true r seat time b h = go_sent _ _ r.state b h
+go_mark false r seat time b h = go_slot (slot_at r.state.ports.conns seat) r seat time b h
 
 go_request : (f : Facts) (s : State) (app time : ℕ) (n : Note) → IsOutward s.out → Goes (rules.requested f s app time n)
 go_request f s app time (note.Bind port need) h = h
@@ -175,14 +172,14 @@ go_request f s app time (note.Closed slot) h = h
 go_request f s app time (note.Down slot) h = h
 
 go_served : (f : Facts) (s : State) (time app : ℕ) (i : ItemShown) → IsOutward s.out → Goes (rules.served f s time app i)
-go_served f s time app (item.Packet mark b) h = go_mark (mark == UNMARKED) f s app mark time b h
+go_served f s time app (item.Packet mark b) h = go_mark (mark == UNMARKED) (router f s) (seat app mark) time b h
 go_served f s time app (item.Note n) h = go_request f s app time n h
 go_served f s time app (item.Frame x) h = h
 
-go_made : (x : Slot) (j : Job) (f : Facts) (s : State) (app number time : ℕ) (b : Content) → IsOutward s.out → Goes (rules.made_on x j f s app number time b)
-go_made slot.Free j f s app number time b h = h
-go_made slot.Held j f s app number time b h = h
-go_made (slot.Open c) j f s app number time b h = go_sent _ _ _ _ h
+go_made : (x : Slot) (owed : Seat × Job) (r : Router) (time : ℕ) (b : Content) → IsOutward r.state.out → Goes (rules.made_on x owed r time b)
+go_made slot.Free owed r time b h = h
+go_made slot.Held owed r time b h = h
+go_made (slot.Open c) owed r time b h = go_sent _ _ _ _ h
 
 -- so it is with each answer: what it brings, and whether a push was done
 go_brought : {X : Type 0} (s : State) (comes : X → Told) (o : Option X) → IsOutward s.out → ((x : X) → Goes (comes x)) → Goes (turn.brought s comes o)
@@ -203,9 +200,9 @@ go_told (plan.Push q bytes) f s time a h = go_pushed (is_pushed a) _ _ h (go_bac
 go_told plan.Hear f s time a h = go_brought s _ (packet_in (item_in a)) h (λ p. go_heard f (came_in s p.mark p.buffer) time p h)
 go_told (plan.Serve k) f s time a h = go_brought s _ (item_in a) h (λ i. go_served f s time k i h)
 go_told (plan.Reply k) f s time a h = go_pushed (is_pushed a) _ _ h (go_back s (packet_in (item_in a)) h)
-go_told (plan.Tell app slot) f s time a h = go_pushed (is_pushed a) _ _ h (go_back s (packet_in (item_in a)) h)
-go_told (plan.Deliver app slot) f s time a h = go_pushed (is_pushed a) _ _ h (go_brought s _ (packet_in (item_in a)) h (λ p. h))
-go_told (plan.Make app slot j) f s time a h = go_brought s _ (buffer_in a) h (λ b. go_made (slot_at s.ports.conns app slot) j f s app slot time b h)
+go_told (plan.Tell seat) f s time a h = go_pushed (is_pushed a) _ _ h (go_back s (packet_in (item_in a)) h)
+go_told (plan.Deliver seat) f s time a h = go_pushed (is_pushed a) _ _ h (go_brought s _ (packet_in (item_in a)) h (λ p. h))
+go_told (plan.Make seat j) f s time a h = go_brought s _ (buffer_in a) h (λ b. go_made (slot_at s.ports.conns seat) (seat, j) (router f s) time b h)
 
 go_until : (f : Facts) (s : State) (time : ℕ) (p : Plan) → IsOutward s.out → IsOutward (turn.turn_of f s time p).until.out
 go_until f s time (plan.Push q bytes) h = tt
@@ -214,9 +211,9 @@ go_until f s time plan.Give h = h
 go_until f s time plan.Hear h = h
 go_until f s time (plan.Serve k) h = h
 go_until f s time (plan.Reply k) h = h
-go_until f s time (plan.Tell app slot) h = h
-go_until f s time (plan.Deliver app slot) h = h
-go_until f s time (plan.Make app slot j) h = h
+go_until f s time (plan.Tell seat) h = h
+go_until f s time (plan.Deliver seat) h = h
+go_until f s time (plan.Make seat j) h = h
 
 -- after each turn
 pub router_outward : (f : Facts) (s : State) (time : ℕ) (a : AnswerShown) → IsOutward s.out → IsOutward (turn.told_at f (turn.asked_at f s time) time a).state.out
@@ -242,9 +239,9 @@ may_reply : (node : ℕ) (owed : List Owed) → MayAsk (who.Router node) (turn.r
 may_reply node [] = tt
 may_reply node (o ∷ owed) = tt
 
-may_deliver : (node : ℕ) (b : Option PlainBuffer) (app slot : ℕ) → MayAsk (who.Router node) (turn.delivering b app slot)
-may_deliver node None app slot = tt
-may_deliver node (Some b) app slot = tt
+may_deliver : (node : ℕ) (b : Option PlainBuffer) (seat : Seat) → MayAsk (who.Router node) (turn.delivering b seat)
+may_deliver node None seat = tt
+may_deliver node (Some b) seat = tt
 
 may_ask : (node : ℕ) (f : Facts) (s : State) (time : ℕ) (p : Plan) → IsOutward s.out → MayAsk (who.Router node) (turn.turn_of f s time p).asks
 may_ask node f s time plan.Rest h = tt
@@ -253,9 +250,9 @@ may_ask node f s time (plan.Push q bytes) h = may_send node s.out h
 may_ask node f s time plan.Hear h = tt
 may_ask node f s time (plan.Serve k) h = tt
 may_ask node f s time (plan.Reply k) h = may_reply node s.ports.owed
-may_ask node f s time (plan.Tell app slot) h = tt
-may_ask node f s time (plan.Deliver app slot) h = may_deliver node (delivery (machine_at s.ports app slot)) app slot
-may_ask node f s time (plan.Make app slot j) h = tt
+may_ask node f s time (plan.Tell seat) h = tt
+may_ask node f s time (plan.Deliver seat) h = may_deliver node (delivery (machine_at s.ports seat)) seat
+may_ask node f s time (plan.Make seat j) h = tt
 
 pub router_asks : (node : ℕ) (f : Facts) (s : State) (time : ℕ) → IsOutward s.out → MayAsk (who.Router node) (turn.asks_at f s time)
 router_asks node f s time h = may_ask node f (turn.timed s time) time (turn.plan_of f (turn.timed s time) time) h

@@ -2,6 +2,7 @@
 use Rattle.std.proofs.Common.{ℕ, Bool, true, false, Option, Some, None, Result, Ok, Err, List, [], ◌∷◌, ◌++◌, length, refl, sym, subst}
 use Rattle.std.specs.Prelude.{⊤}
 use Rattle.std.specs.List.{AllByRecursion}
+use Rattle.csp_base.specs.Seat.{seat}
 use Rattle.csp_app.specs.Asking.{asked, asks}
 use Rattle.csp_app.specs.Collecting.{blobs_told, collector_at, piece_told}
 use Rattle.csp_app.specs.PlainApp.{PlainApp, opening}
@@ -143,5 +144,5 @@ run_tells (e ∷ es) time s run = (
 pub true_apps : AreTrueApps
 true_apps number steps es log = record {
   untraced = app_puts IsUntraced steps (λ j b. refl) (each_any (PutsSo IsUntraced) steps step_bare) (queue.Up number) number es log;
-  takes = λ slot ordinal. took_is number slot ordinal es (run_tells es 0 (opening number steps) log);
+  takes = λ slot ordinal. took_is (seat number slot) ordinal es (run_tells es 0 (opening number steps) log);
 }

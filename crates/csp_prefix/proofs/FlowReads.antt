@@ -2,6 +2,7 @@
 use Rattle.std.proofs.Common.{◌≡◌, ◌⊎◌, inl, inr, ℕ, zero, suc, ◌==◌, Bool, true, false, Option, Some, None, List, [], ◌∷◌, ◌++◌, flat_map, slice_get, unwrap_or, refl, sym, ap, ◌∙◌, subst, eqb-true}
 use Rattle.std.specs.Prelude.{if◌then◌else◌}
 use Rattle.std.proofs.lemmas.Bool.{eq-eqb}
+use Rattle.csp_base.specs.Seat.{seat}
 use Rattle.csp_log.specs.Noting.{noted_in}
 use Rattle.csp_log.specs.declared.entry.Entry.{Entry}
 use Rattle.csp_log.specs.declared.event.Event.{Event}
@@ -125,7 +126,7 @@ opening_among app ends (d ∷ es) k x e =
 -- ---- what was sent on the connection with a number
 
 abbrev said_by : ℕ → List Entry → Option Opening → List (List ℕ) → List (List ℕ)
-said_by app es (Some x) rest = sent app x.slot x.ordinal es
+said_by app es (Some x) rest = sent (seat app x.slot) x.ordinal es
 said_by app es None rest = rest
 
 abbrev said_among : List Entry → ℕ → List ℕ → List (List ℕ)
@@ -145,7 +146,7 @@ record IsSaidOn (es : List Entry) (nth : ℕ) (said : List (List ℕ)) : Type 0 
   app : ℕ
   opening : Opening
   flow : IsFlowOf es app nth opening
-  same : said ≡ sent app opening.slot opening.ordinal es
+  same : said ≡ sent (seat app opening.slot) opening.ordinal es
 
 abbrev IsSearched : List Entry → ℕ → List ℕ → List (List ℕ) → Type 0
 IsSearched es nth apps said = ((said ≡ []) × HasNone es nth apps) ⊎ IsSaidOn es nth said
@@ -167,15 +168,15 @@ searched es nth [] = inl (refl, λ app k x a there h. a)
 searched es nth (app ∷ apps) = search_next es nth app apps (said_among es nth apps) (find_number nth (openings app es)) refl (searched es nth apps)
 
 -- of each connection with the number it is what was sent
-pub said_is : (es : List Entry) → AreNumbered es → (app nth : ℕ) (x : Opening) → IsFlowOf es app nth x → said_of es nth ≡ sent app x.slot x.ordinal es
+pub said_is : (es : List Entry) → AreNumbered es → (app nth : ℕ) (x : Opening) → IsFlowOf es app nth x → said_of es nth ≡ sent (seat app x.slot) x.ordinal es
 said_is es numbered app nth x flow =
     by (searched es nth (apps_in es))
   where
-    by : IsSearched es nth (apps_in es) (said_of es nth) → said_of es nth ≡ sent app x.slot x.ordinal es
+    by : IsSearched es nth (apps_in es) (said_of es nth) → said_of es nth ≡ sent (seat app x.slot) x.ordinal es
     by (inl none) = absurd (none.1 app flow.at x (opening_among app no_ends es flow.at x (ap (λ xs. slice_get xs flow.at) (sym (openings_are app es)) ∙ flow.there)) flow.there flow.numbered)
     by (inr on) =
-        let same : (on.app ≡ app) × (on.opening.slot ≡ x.slot) × (on.opening.ordinal ≡ x.ordinal) = numbered on.app app nth on.opening x on.flow flow in
-        on.same ∙ λ i. sent (same.0 i) (same.1 i) (same.2 i) es
+        let same : (seat on.app on.opening.slot ≡ seat app x.slot) × (on.opening.ordinal ≡ x.ordinal) = numbered on.app app nth on.opening x on.flow flow in
+        on.same ∙ λ i. sent (same.0 i) (same.1 i) es
 
 -- and nothing where there is none
 pub said_none : (es : List Entry) (nth : ℕ) → ((app : ℕ) (x : Opening) → IsFlowOf es app nth x → ⊥) → said_of es nth ≡ []
@@ -187,10 +188,11 @@ said_none es nth never =
     by (inr on) = absurd (never on.app on.opening on.flow)
 
 -- what holds of nothing, and of what was sent on each connection with the number, holds of what was said
-pub said_so : (P : List (List ℕ) → Type 0) (es : List Entry) (nth : ℕ) → P [] → ((app : ℕ) (x : Opening) → IsFlowOf es app nth x → P (sent app x.slot x.ordinal es)) → P (said_of es nth)
+pub said_so : (P : List (List ℕ) → Type 0) (es : List Entry) (nth : ℕ) → P [] → ((app : ℕ) (x : Opening) → IsFlowOf es app nth x → P (sent (seat app x.slot) x.ordinal es)) → P (said_of es nth)
 said_so P es nth nothing each =
     by (searched es nth (apps_in es))
   where
     by : IsSearched es nth (apps_in es) (said_of es nth) → P (said_of es nth)
     by (inl none) = subst P (sym none.0) nothing
     by (inr on) = subst P (sym on.same) (each on.app on.opening on.flow)
+

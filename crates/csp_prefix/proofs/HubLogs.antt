@@ -3,6 +3,7 @@ use Rattle.std.proofs.Common.{◌≡◌, ◌⊎◌, inl, inr, ℕ, zero, suc, �
 use Rattle.std.specs.Prelude.{if◌then◌else◌, nat_le, IfSome, ⊤}
 use Rattle.std.specs.List.{AllByRecursion, list_any}
 use Rattle.std.proofs.lemmas.Bool.{eq-eqb, leb-true}
+use Rattle.csp_base.specs.declared.seat.Seat.{Seat}
 use Rattle.csp_bridge.specs.PlainBridge.{PlainBridge}
 use Rattle.csp_bridge.specs.Turns as bridge_turns
 use Rattle.csp_bridge.specs.declared.doing.Doing.{Doing}
@@ -71,15 +72,15 @@ abbrev PlansOwn : ℕ → Plan → Type 0
 PlansOwn apps (plan.Serve k) = k < apps
 PlansOwn apps _ = ⊤
 
-own_job : (apps app slot : ℕ) (t : Task) → PlansOwn apps (plan_for app slot t)
-own_job apps app slot task.Tell = tt
-own_job apps app slot task.Deliver = tt
-own_job apps app slot (task.Make j) = tt
+own_job : (apps : ℕ) (seat : Seat) (t : Task) → PlansOwn apps (plan_for seat t)
+own_job apps seat task.Tell = tt
+own_job apps seat task.Deliver = tt
+own_job apps seat (task.Make j) = tt
 
-own_jobs : (apps : ℕ) (owed : List Owed) (t : Option (ℕ × ℕ × Task)) → PlansOwn apps (jobs_by owed t)
+own_jobs : (apps : ℕ) (owed : List Owed) (t : Option (Seat × Task)) → PlansOwn apps (jobs_by owed t)
 own_jobs apps (_ ∷ _) t = tt
 own_jobs apps [] None = tt
-own_jobs apps [] (Some t) = own_job apps t.0 t.1 t.2
+own_jobs apps [] (Some t) = own_job apps t.0 t.1
 
 own_work : (apps k : ℕ) (s : State) (time : ℕ) (first within : Bool) → (k == 0) ≡ first → nat_le k apps ≡ within
     → PlansOwn apps (work_at s time (cond first source.Inbox (cond within (source.App (k - 1)) source.Jobs)))
@@ -119,14 +120,14 @@ own_op apps f s time (plan.Reply _) h =
     by : (os : List Owed) → ServesOwn apps (replying os)
     by [] = tt
     by (_ ∷ _) = tt
-own_op apps f s time (plan.Tell app slot) h = tt
-own_op apps f s time (plan.Deliver app slot) h =
-    by (delivery (machine_at s.ports app slot))
+own_op apps f s time (plan.Tell seat) h = tt
+own_op apps f s time (plan.Deliver seat) h =
+    by (delivery (machine_at s.ports seat))
   where
-    by : (b : Option PlainBuffer) → ServesOwn apps (delivering b app slot)
+    by : (b : Option PlainBuffer) → ServesOwn apps (delivering b seat)
     by None = tt
     by (Some b) = tt
-own_op apps f s time (plan.Make app slot _) h = tt
+own_op apps f s time (plan.Make seat _) h = tt
 
 own_asks : (f : Facts) (s : State) (time : ℕ) → ServesOwn f.apps (turn_of f s time (plan_of f s time)).asks
 own_asks f s time = own_op f.apps f s time (plan_of f s time) (own_plan f.apps s.trash s.out (work_found f s time (place_with_work f s time)) (own_found f s time (place_with_work f s time)))
@@ -314,3 +315,4 @@ shown_all R number serial (e ∷ es) own got = (
 pub iface_shows : (R : Content → Type 0) (node number serial : ℕ) (kind : LinkKind) (mtu : ℕ) (heeds : Option ℕ) (es : List Entry) → IsRun party_steps 0 (an_iface (iface_opening node number kind mtu heeds)) es
     → AllByRecursion (IsOfKind R) (gets (queue.Out number) es) → AllByRecursion (λ e. (b : Content) → shown_in serial e ≡ Some b → R b) es
 iface_shows R node number serial kind mtu heeds es run got = shown_all R number serial es (fetches_from node number es 0 (iface_opening node number kind mtu heeds) run (refl, refl)) got
+

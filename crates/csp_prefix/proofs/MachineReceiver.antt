@@ -6,7 +6,7 @@ use Rattle.std.proofs.lemmas.List.{take-append-drop}
 use Rattle.std.proofs.lemmas.Option.{slice_get_within}
 use Rattle.csp_base.specs.declared.traces.Tag.{Tag}
 use Rattle.csp_buffer.specs.PlainBuffer.{PlainBuffer}
-use Rattle.csp_ports.specs.declared.origin.Origin.{Origin}
+use Rattle.csp_ports.specs.declared.flows.OwnFlows.{OwnFlows}
 use Rattle.csp_rdp_header.specs.Head.{has_flag}
 use Rattle.csp_rdp_header.specs.declared.head.RdpHead.{RdpHead}
 use Rattle.csp_rdp_header.specs.declared.head.TheConstants.{SYN}
@@ -310,34 +310,35 @@ module _ (flows : Flows) where
 
 -- ---- all of it
 
-pub receiver-kept : (o : Origin) (flows : Flows) → IsKept o (true_packets flows) (IsReceiver flows)
+pub receiver-kept : (o : OwnFlows) (flows : Flows) → IsKept o (true_packets flows) (IsReceiver flows)
 receiver-kept o flows = record {
-  grows = λ m later app slot n g i. i;
-  connects = λ m app slot ordinal time c flags home asked. (record { book = refl; waits = refl }, record { cur = refl; kept = refl }, refl, refl);
-  accepts = λ m app slot ordinal time c flags h tag options home syn invited. (
+  grows = λ m later seat n g i. i;
+  connects = λ m seat ordinal time c flags home asked. (record { book = refl; waits = refl }, record { cur = refl; kept = refl }, refl, refl);
+  accepts = λ m seat ordinal time c flags h tag options home syn invited. (
     record { book = refl; waits = refl },
     record { cur = refl; kept = refl },
     refl,
     λ flow f. invited-start flows h tag invited flow f,
   );
-  early = λ m app slot n i e. both n (receives-early flows n.machine.state n (early-is n.machine.state e) i);
-  never = λ m app slot n i e. both n ((receives-over flows n.machine.state n i).0.1 e);
-  rests = λ m app slot n i. receiver-on flows (recv_rested n.machine.state n.machine.recv) n (rested n.machine) (goes-rested n.machine) (no-more-rested n.machine.state n.machine.recv) i;
-  ticks = λ m app slot n time i. receiver-ways flows n (ticked time n.machine) (ways-ticked time n.machine) i;
-  closes = λ m app slot n time i. receiver-ways flows n (closing time n.machine) (ways-closing time n.machine) i;
-  makes = λ m app slot n time j job i. receiver-on flows n.machine.recv n (sent j time n.machine) (goes-sent j time n.machine) (no-more n.machine.recv) i;
-  hears = λ m app slot n h tag b time fed shut i. hears-on flows h tag b n (after_packet h tag b time n.machine) fed (hears-handed h tag b time n.machine) shut i;
-  opens = λ m app slot n h tag b time fed opening i. hears-opening flows h tag b n (after_packet h tag b time n.machine) fed (hears-handed h tag b time n.machine) opening i;
-  admits = λ m app slot n b time is_open room waits i.
+  early = λ m seat n i e. both n (receives-early flows n.machine.state n (early-is n.machine.state e) i);
+  never = λ m seat n i e. both n ((receives-over flows n.machine.state n i).0.1 e);
+  rests = λ m seat n i. receiver-on flows (recv_rested n.machine.state n.machine.recv) n (rested n.machine) (goes-rested n.machine) (no-more-rested n.machine.state n.machine.recv) i;
+  ticks = λ m seat n time i. receiver-ways flows n (ticked time n.machine) (ways-ticked time n.machine) i;
+  closes = λ m seat n time i. receiver-ways flows n (closing time n.machine) (ways-closing time n.machine) i;
+  makes = λ m seat n time j job i. receiver-on flows n.machine.recv n (sent j time n.machine) (goes-sent j time n.machine) (no-more n.machine.recv) i;
+  hears = λ m seat n h tag b time fed shut i. hears-on flows h tag b n (after_packet h tag b time n.machine) fed (hears-handed h tag b time n.machine) shut i;
+  opens = λ m seat n h tag b time fed opening i. hears-opening flows h tag b n (after_packet h tag b time n.machine) fed (hears-handed h tag b time n.machine) opening i;
+  admits = λ m seat n b time is_open room waits i.
       sends-open flows n (after_sending b.picture.payload (with_machine (admitting b time n.machine) n)) (record { state = refl; nth = refl; peer = refl; was_open = refl; recv = refl; opened = refl; down = refl }) is_open i;
-  delays = λ m app slot n payload is_open waits i.
+  delays = λ m seat n payload is_open waits i.
       sends-open flows n (after_sending payload (waiting_for (Some payload) n)) (record { state = refl; nth = refl; peer = refl; was_open = refl; recv = refl; opened = refl; down = refl }) is_open i;
-  settles = λ m app slot n b time is_open room waits i.
+  settles = λ m seat n b time is_open room waits i.
       sends-open flows n (waiting_for None (with_machine (admitting b time n.machine) n)) (record { state = refl; nth = refl; peer = refl; was_open = refl; recv = refl; opened = refl; down = refl }) is_open i;
-  drops = λ m app slot n shut i. receives-dropped flows n.machine.state n shut i;
-  delivers = λ m app slot n b time found i. receiver-delivers flows n b found i _ (delivers-both time n.machine (delivers-open n.machine.state n.machine b found));
-  keeps = λ m app slot n b c found same i. receiver-keeps flows n b found i c same;
+  drops = λ m seat n shut i. receives-dropped flows n.machine.state n shut i;
+  delivers = λ m seat n b time found i. receiver-delivers flows n b found i _ (delivers-both time n.machine (delivers-open n.machine.state n.machine b found));
+  keeps = λ m seat n b c found same i. receiver-keeps flows n b found i c same;
 }
 
 pub receiver-begins : (flows : Flows) → Receives (IsReceiver flows) flows
-receiver-begins flows m app slot n nth flow i e = begins-told flows n nth flow (receives-over flows n.machine.state n i) e
+receiver-begins flows m seat n nth flow i e = begins-told flows n nth flow (receives-over flows n.machine.state n i) e
+

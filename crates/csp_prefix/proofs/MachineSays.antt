@@ -6,10 +6,11 @@ use Rattle.std.specs.Option.{option_map_or}
 use Rattle.std.proofs.lemmas.Bool.{eqb-true}
 use Rattle.std.proofs.lemmas.Int.{ints}
 use Rattle.std.proofs.lemmas.List.Elements.{All-head, All-tail}
+use Rattle.csp_base.specs.declared.seat.Seat.{Seat}
 use Rattle.csp_base.specs.Sequence.{number_of}
 use Rattle.csp_base.proofs.Public.{wrapped_is}
 use Rattle.csp_ports.specs.PlainPorts.{start_of}
-use Rattle.csp_ports.specs.declared.origin.Origin.{Origin}
+use Rattle.csp_ports.specs.declared.flows.OwnFlows.{OwnFlows}
 use Rattle.csp_rdp_window.specs.Receiving.{next_buffer}
 use Rattle.csp_rdp_window.specs.Sending.{due_index}
 use Rattle.csp_rdp_window.specs.declared.pending.Pending.{Pending}
@@ -103,8 +104,8 @@ nth_told (Some x) = x.0
 
 -- ---- what it says
 
-module _ (o : Origin) (m : Numbering) (app slot : ℕ) (n : Now) (time : ℕ) where
-  numbered-early : (s : State) → IsEarly s → SendsIn s o m app slot n → IsNumbered o m app slot n
+module _ (o : OwnFlows) (m : Numbering) (seat : Seat) (n : Now) (time : ℕ) where
+  numbered-early : (s : State) → IsEarly s → SendsIn s o m seat n → IsNumbered o m seat n
   numbered-early SynSent e i = i.0
   numbered-early SynRcvd e i = i.0
   numbered-early Open e i = absurd e
@@ -126,7 +127,7 @@ module _ (o : Origin) (m : Numbering) (app slot : ℕ) (n : Now) (time : ℕ) wh
   opening-is_data CloseWait r = refl
   opening-is_data Closed r = refl
 
-  says-syn : IsNumbered o m app slot n → SaysTrue o m app slot n time job.Syn
+  says-syn : IsNumbered o m seat n → SaysTrue o m seat n time job.Syn
   says-syn i = record {
     syn = λ e. (
       i.node,
@@ -137,7 +138,7 @@ module _ (o : Origin) (m : Numbering) (app slot : ℕ) (n : Now) (time : ℕ) wh
     carries = λ e. absurd (let f = opening-is_data n.machine.state n.machine in cc);
   }
 
-  says-data : SendsIn Open o m app slot n → SaysTrue o m app slot n time job.Data
+  says-data : SendsIn Open o m seat n → SaysTrue o m seat n time job.Data
   says-data i = record {
     syn = λ e. absurd cc;
     carries = λ e. (
@@ -148,32 +149,33 @@ module _ (o : Origin) (m : Numbering) (app slot : ℕ) (n : Now) (time : ℕ) wh
     );
   }
 
-  says-job : (j : Job) → job_of time n.machine ≡ Some j → IsSender o m app slot n → SaysTrue o m app slot n time j
+  says-job : (j : Job) → job_of time n.machine ≡ Some j → IsSender o m seat n → SaysTrue o m seat n time j
   says-job job.Rst e i = record { syn = λ f. absurd cc; carries = λ f. absurd cc }
   says-job job.Syn e i = says-syn (numbered-early n.machine.state (syn-in n.machine.state time n.machine (job-in time n.machine job.Syn rst-syn e)) i)
   says-job job.Deliver e i = record { syn = λ f. absurd cc; carries = λ f. absurd cc }
   says-job job.Eak e i = record { syn = λ f. absurd cc; carries = λ f. absurd cc }
   says-job job.Data e i =
       let is_open = data-in n.machine.state time n.machine (job-in time n.machine job.Data rst-data e) in
-      says-data (subst (λ s. SendsIn s o m app slot n) is_open i)
+      says-data (subst (λ s. SendsIn s o m seat n) is_open i)
   says-job job.Ack e i = record { syn = λ f. absurd cc; carries = λ f. absurd cc }
 
   -- ---- its number
 
-  number-told : (nth : ℕ) (peer : Option (ℕ × ℕ)) → IsOver m app slot n → n.book.opened ≡ Some (Some nth, peer) → IsOpeningOf m app slot n.ordinal nth
+  number-told : (nth : ℕ) (peer : Option (ℕ × ℕ)) → IsOver m seat n → n.book.opened ≡ Some (Some nth, peer) → IsOpeningOf m seat n.ordinal nth
   number-told nth peer i e = go n.machine.was_open refl
     where
-      go : (b : Bool) → n.machine.was_open ≡ b → IsOpeningOf m app slot n.ordinal nth
+      go : (b : Bool) → n.machine.was_open ≡ b → IsOpeningOf m seat n.ordinal nth
       go true f =
           let w = i.0 f in
           let told = w.opened in
           let both : Some n.machine.nth ≡ Some nth = ap nth_told (sym told ∙ e) in
           let same : n.machine.nth ≡ nth = cc in
-          subst (λ k. IsOpeningOf m app slot n.ordinal k) same w.numbered
+          subst (λ k. IsOpeningOf m seat n.ordinal k) same w.numbered
       go false f = let none = ap (λ k. k.opened) (i.1 f).book in absurd cc
 
-pub sender-says : (o : Origin) → MakesTrue (IsSender o) o
-sender-says o m app slot n time j i e = says-job o m app slot n time j e i
+pub sender-says : (o : OwnFlows) → MakesTrue (IsSender o) o
+sender-says o m seat n time j i e = says-job o m seat n time j e i
 
-pub sender-opens : (o : Origin) → OpensNumbered (IsSender o)
-sender-opens o m app slot n nth peer i e = number-told o m app slot n 0 nth peer (sends-over o m app slot n.machine.state n i) e
+pub sender-opens : (o : OwnFlows) → OpensNumbered (IsSender o)
+sender-opens o m seat n nth peer i e = number-told o m seat n 0 nth peer (sends-over o m seat n.machine.state n i) e
+

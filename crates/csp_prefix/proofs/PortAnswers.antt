@@ -3,6 +3,8 @@ use Rattle.std.specs.Prelude.{◌==◌, Bool, true, false, None, Option, Some, c
 use Rattle.std.specs.List.{AllByRecursion}
 use Rattle.std.proofs.Common.{◌≡◌, ℕ, ◌+◌, ◌<◌, List, ◌∷◌, arith, ap, refl, sym, subst, ◌∙◌}
 use Rattle.std.proofs.lemmas.List.Sums.{sum_by-cons}
+use Rattle.csp_base.specs.Seat.{seat}
+use Rattle.csp_base.specs.declared.seat.Seat.{Seat}
 use Rattle.csp_base.specs.declared.limits.TheConstants.{SLOTS}
 use Rattle.csp_log.specs.declared.note.Note.{Note}
 use Rattle.csp_log.specs.declared.note.Note.TheVariants as note
@@ -41,7 +43,7 @@ none_of : (w : Option (List ℕ)) (s : State) → s ≡ Closed → ((payload : L
 none_of None s e h = refl
 none_of (Some payload) s e h = absurd (closed_open (sym e ∙ h payload refl))
 
-module _ {Is : Numbering → ℕ → ℕ → Now → Type 0} {m : Numbering} {ordinals : Ordinals} {books : Books} {p : PlainPorts} (g : AreGood Is m ordinals books p) (app : ℕ) (answer : Note) (rest : List Owed) (e : p.owed ≡ record { app = app; note = answer } ∷ rest) where
+module _ {Is : Numbering → Seat → Now → Type 0} {m : Numbering} {ordinals : Ordinals} {books : Books} {p : PlainPorts} (g : AreGood Is m ordinals books p) (app : ℕ) (answer : Note) (rest : List Owed) (e : p.owed ≡ record { app = app; note = answer } ∷ rest) where
   -- the ports without it
   abbrev left : PlainPorts
   left = record p { owed = rest }
@@ -52,43 +54,43 @@ module _ {Is : Numbering → ℕ → ℕ → Now → Type 0} {m : Numbering} {or
   left_shape : IsShaped m.made left
   left_shape = reshaped p.conns.slots p.conns.last p.slots rest refl refl owed_all.1 (fine_of g).shape
 
-  count_left : (a s : ℕ) (b : Bool) → is_end_of a s (record { app = app; note = answer }) ≡ b → count_by (is_end_of a s) p.owed ≡ cond b 1 0 + count_by (is_end_of a s) rest
-  count_left a s b f = ap (count_by (is_end_of a s)) e ∙ count_first (is_end_of a s) (record { app = app; note = answer }) rest b f
+  count_left : (a : Seat) (b : Bool) → is_end_of a (record { app = app; note = answer }) ≡ b → count_by (is_end_of a) p.owed ≡ cond b 1 0 + count_by (is_end_of a) rest
+  count_left a b f = ap (count_by (is_end_of a)) e ∙ count_first (is_end_of a) (record { app = app; note = answer }) rest b f
 
-  left_slot : (a s : ℕ) → a < p.conns.apps → s < SLOTS → is_end_of a s (record { app = app; note = answer }) ≡ false → IsFine Is All m (ordinals a s) a s (view left books a s)
-  left_slot a s k l f =
-      subst (λ (n : ℕ). IsFine Is All m (ordinals a s) a s (record (view p books a s) { ends = n })) (count_left a s false f ∙ zero_add (count_by (is_end_of a s) rest)) ((fine_of g).slots a s k l)
+  left_slot : (a : Seat) → a.app < p.conns.apps → a.slot < SLOTS → is_end_of a (record { app = app; note = answer }) ≡ false → IsFine Is All m (ordinals a) a (view left books a)
+  left_slot a k l f =
+      subst (λ (n : ℕ). IsFine Is All m (ordinals a) a (record (view p books a) { ends = n })) (count_left a false f ∙ zero_add (count_by (is_end_of a) rest)) ((fine_of g).slots a k l)
 
   -- one that is none to a close
   left_good : IsQuiet answer → AreGood Is m ordinals books left
-  left_good quiet = good_of (record { shape = left_shape; slots = λ a s k l. left_slot a s k l (and_false (app == a) (is_end s answer) (quiet s)) })
+  left_good quiet = good_of (record { shape = left_shape; slots = λ a k l. left_slot a k l (and_false (app == a.app) (is_end a.slot answer) (quiet a.slot)) })
 
 -- that to a close frees its slot
-module _ {Is : Numbering → ℕ → ℕ → Now → Type 0} {m : Numbering} {ordinals : Ordinals} {books : Books} {p : PlainPorts} (g : AreGood Is m ordinals books p) (app slot : ℕ) (rest : List Owed) (e : p.owed ≡ record { app = app; note = note.Closed slot } ∷ rest) where
-  freed_good : AreGood Is m (with_ordinal app slot (ordinals app slot + 1) ordinals) (with_book app slot blank books) (freed ((terms_at p app slot).ordinal + 1) app slot (left g app (note.Closed slot) rest e)).ports
+module _ {Is : Numbering → Seat → Now → Type 0} {m : Numbering} {ordinals : Ordinals} {books : Books} {p : PlainPorts} (g : AreGood Is m ordinals books p) (seat : Seat) (rest : List Owed) (e : p.owed ≡ record { app = seat.app; note = note.Closed seat.slot } ∷ rest) where
+  freed_good : AreGood Is m (with_ordinal seat (ordinals seat + 1) ordinals) (with_book seat blank books) (freed ((terms_at p seat).ordinal + 1) seat (left g seat.app (note.Closed seat.slot) rest e)).ports
   freed_good =
-      let q = left g app (note.Closed slot) rest e in
-      let first : IsOwed p.conns.apps (record { app = app; note = note.Closed slot }) = (owed_all g app (note.Closed slot) rest e).0 in
-      let n = count_by (is_end_of app slot) rest in
-      let due : 1 + n ≡ ends_due (terms_at p app slot).wish = sym (count_left g app (note.Closed slot) rest e app slot true (alike app slot)) ∙ g.ends app slot first.app first.reply in
-      let over = one_due (terms_at p app slot).wish n due in
-      let x = view p books app slot in
-      let h : AreFineBut Is All m ordinals books q app slot (view q books app slot) = record {
-        shape = left_shape g app (note.Closed slot) rest e;
+      let q = left g seat.app (note.Closed seat.slot) rest e in
+      let first : IsOwed p.conns.apps (record { app = seat.app; note = note.Closed seat.slot }) = (owed_all g seat.app (note.Closed seat.slot) rest e).0 in
+      let n = count_by (is_end_of seat) rest in
+      let due : 1 + n ≡ ends_due (terms_at p seat).wish = sym (count_left g seat.app (note.Closed seat.slot) rest e seat true (alike seat)) ∙ g.ends seat first.app first.reply in
+      let over = one_due (terms_at p seat).wish n due in
+      let x = view p books seat in
+      let h : AreFineBut Is All m ordinals books q seat (view q books seat) = record {
+        shape = left_shape g seat.app (note.Closed seat.slot) rest e;
         here = first.app;
         there = first.reply;
         seen = refl;
-        others = λ a s k l t. left_slot g app (note.Closed slot) rest e a s k l (unlike a s app slot (λ f g. t (sym f) (sym g)));
+        others = λ a k l t. left_slot g seat.app (note.Closed seat.slot) rest e a k l (unlike seat a t);
       } in
-      let k = (terms_at p app slot).ordinal + 1 in
-      let waits : x.waits ≡ None = none_of x.waits x.machine.state (g.over app slot first.app first.reply over.0) (((fine_of g).slots app slot first.app first.reply).waits tt) in
-      let there = book_but (ordinal_but h (ordinals app slot + 1)) blank in
+      let k = (terms_at p seat).ordinal + 1 in
+      let waits : x.waits ≡ None = none_of x.waits x.machine.state (g.over seat first.app first.reply over.0) (((fine_of g).slots seat first.app first.reply).waits tt) in
+      let there = book_but (ordinal_but h (ordinals seat + 1)) blank in
       good_of
-      (whole (freed_but there k) (vacant_fine there k (ap (λ (k : ℕ). k + 1) (g.counted app slot first.app first.reply) ∙ sym (ordinal_same app slot (ordinals app slot + 1) ordinals)) waits refl over.1))
+      (whole (freed_but there k) (vacant_fine there k (ap (λ (k : ℕ). k + 1) (g.counted seat first.app first.reply) ∙ sym (ordinal_same seat (ordinals seat + 1) ordinals)) waits refl over.1))
 
-module _ {Is : Numbering → ℕ → ℕ → Now → Type 0} {m : Numbering} {ordinals : Ordinals} {books : Books} {p : PlainPorts} (g : AreGood Is m ordinals books p) where
+module _ {Is : Numbering → Seat → Now → Type 0} {m : Numbering} {ordinals : Ordinals} {books : Books} {p : PlainPorts} (g : AreGood Is m ordinals books p) where
   answer_on : (app : ℕ) (answer : Note) (rest : List Owed) → p.owed ≡ record { app = app; note = answer } ∷ rest → Answers Is m ordinals books p.conns.apps (record { app = app; note = answer }) (freed_by answer app (record p { owed = rest }))
-  answer_on app (note.Closed slot) rest e = record { same = refl; quiet = refl; good = freed_good g app slot rest e }
+  answer_on app (note.Closed slot) rest e = record { same = refl; quiet = refl; good = freed_good g (seat app slot) rest e }
   answer_on app note.Bound rest e = record { same = refl; quiet = refl; good = left_good g app note.Bound rest e (λ s. refl) }
   answer_on app (note.Connected slot) rest e = record { same = refl; quiet = refl; good = left_good g app (note.Connected slot) rest e (λ s. refl) }
   answer_on app (note.Refused reason) rest e = record { same = refl; quiet = refl; good = left_good g app (note.Refused reason) rest e (λ s. refl) }
@@ -99,3 +101,4 @@ module _ {Is : Numbering → ℕ → ℕ → Now → Type 0} {m : Numbering} {or
 
   pub answered_answers : (first : Owed) (rest : List Owed) → p.owed ≡ first ∷ rest → Answers Is m ordinals books p.conns.apps first (answered p)
   answered_answers first rest e = subst (λ (os : List Owed). Answers Is m ordinals books p.conns.apps first (answered_by os p)) (sym e) (answer_on first.app first.note rest e)
+

@@ -1,6 +1,8 @@
 -- ports that are good, by their slots; one step after another; and what is on a slot
 use Rattle.std.specs.Prelude.{Bool, true, false, None, ⊤}
 use Rattle.std.proofs.Common.{◌≡◌, ◌⊎◌, inl, inr, ℕ, ◌+◌, List, [], ◌∷◌, ◌++◌, ap, refl, sym, subst, ◌∙◌}
+use Rattle.csp_base.specs.Seat.{seat}
+use Rattle.csp_base.specs.declared.seat.Seat.{Seat}
 use Rattle.csp_conn.specs.declared.slot.Connection.{Connection}
 use Rattle.csp_conn.specs.declared.slot.Slot.{Slot}
 use Rattle.csp_conn.specs.declared.slot.Slot.TheVariants as has
@@ -9,7 +11,7 @@ use Rattle.csp_ports.specs.Asking.{is_reliable}
 use Rattle.csp_ports.specs.Came.{Came, come, then}
 use Rattle.csp_ports.specs.PlainPorts.{PlainPorts, machine_at, stalled_at}
 use Rattle.csp_ports.specs.Steps.{where_machine}
-use Rattle.csp_ports.specs.declared.origin.Origin.{Origin}
+use Rattle.csp_ports.specs.declared.flows.OwnFlows.{OwnFlows}
 use Rattle.csp_ports.specs.declared.terms.Terms.{Terms}
 use Rattle.csp_ports.specs.declared.terms.Wish.TheVariants as wish
 use Rattle.csp_rdp.specs.Machine.{idle}
@@ -25,7 +27,7 @@ All _ = ⊤
 
 -- ---- good ports are fine on each slot, and the other way round
 
-module _ {Is : Numbering → ℕ → ℕ → Now → Type 0} {m : Numbering} {ordinals : Ordinals} {books : Books} {p : PlainPorts} where
+module _ {Is : Numbering → Seat → Now → Type 0} {m : Numbering} {ordinals : Ordinals} {books : Books} {p : PlainPorts} where
   pub fine_of : AreGood Is m ordinals books p → AreFine Is All m ordinals books p
   fine_of g = record {
     shape = record {
@@ -38,12 +40,12 @@ module _ {Is : Numbering → ℕ → ℕ → Now → Type 0} {m : Numbering} {or
       owed = g.owed;
       waits = λ app s k e. (g.waits app s k e).0;
     };
-    slots = λ a s k l. record {
-      counted = g.counted a s k l;
-      ends = g.ends a s k l;
-      over = g.over a s k l;
-      waits = λ t payload e. waiting_open (stalled_at p a) s payload (λ (slot : ℕ). (machine_at p a slot).state ≡ Open) (λ t f. (g.waits a t k f).1) e;
-      holds = g.slots a s k l;
+    slots = λ a k l. record {
+      counted = g.counted a k l;
+      ends = g.ends a k l;
+      over = g.over a k l;
+      waits = λ t payload e. waiting_open (stalled_at p a.app) a.slot payload (λ (slot : ℕ). (machine_at p (seat a.app slot)).state ≡ Open) (λ t f. (g.waits a.app t k f).1) e;
+      holds = g.slots a k l;
     };
   }
 
@@ -56,19 +58,19 @@ module _ {Is : Numbering → ℕ → ℕ → Now → Type 0} {m : Numbering} {or
     made = h.shape.made;
     owners = h.shape.owners;
     owed = h.shape.owed;
-    counted = λ a s k l. (h.slots a s k l).counted;
-    waits = λ a s k e.
-        let there = h.shape.waits a s k e in
-        (there, (h.slots a s.slot k there).waits tt s.buffer.picture.payload (waiting_here (stalled_at p a) s e));
-    ends = λ a s k l. (h.slots a s k l).ends;
-    over = λ a s k l. (h.slots a s k l).over;
-    slots = λ a s k l. (h.slots a s k l).holds;
+    counted = λ a k l. (h.slots a k l).counted;
+    waits = λ app s k e.
+        let there = h.shape.waits app s k e in
+        (there, (h.slots (seat app s.slot) k there).waits tt s.buffer.picture.payload (waiting_here (stalled_at p app) s e));
+    ends = λ a k l. (h.slots a k l).ends;
+    over = λ a k l. (h.slots a k l).over;
+    slots = λ a k l. (h.slots a k l).holds;
   }
 
 -- ---- steps
 
 -- what comes leaves every slot fine, with what is reported noted
-pub record Leaves (Is : Numbering → ℕ → ℕ → Now → Type 0) (Tight : ℕ → Type 0) (m : Numbering) (ordinals : Ordinals) (books : Books) (apps : ℕ) (c : Came) : Type 0 where
+pub record Leaves (Is : Numbering → Seat → Now → Type 0) (Tight : ℕ → Type 0) (m : Numbering) (ordinals : Ordinals) (books : Books) (apps : ℕ) (c : Came) : Type 0 where
   pub same : c.ports.conns.apps ≡ apps
   pub new : AreNew apps c.events books
   pub fine : AreFine Is Tight m ordinals (noted c.events books) c.ports
@@ -81,14 +83,14 @@ noted_both : (es fs : List Event) (books : Books) → noted fs (noted es books) 
 noted_both [] fs books = refl
 noted_both (e ∷ es) fs books = noted_both es fs (noted_by e books)
 
-module _ {Is : Numbering → ℕ → ℕ → Now → Type 0} {Tight : ℕ → Type 0} {m : Numbering} {ordinals : Ordinals} {books : Books} {apps : ℕ} where
+module _ {Is : Numbering → Seat → Now → Type 0} {Tight : ℕ → Type 0} {m : Numbering} {ordinals : Ordinals} {books : Books} {apps : ℕ} where
   pub comes_of : {c : Came} → Leaves Is Tight m ordinals books apps c → ((a : ℕ) → Tight a) → Comes Is m ordinals books apps c
   comes_of h tight = record { same = h.same; new = h.new; good = good_of (tightened h.fine) }
     where
       tightened : {p : PlainPorts} {others : Books} → AreFine Is Tight m ordinals others p → AreFine Is All m ordinals others p
       tightened h = record {
         shape = h.shape;
-        slots = λ a s k l. let f = h.slots a s k l in record { counted = f.counted; ends = f.ends; over = f.over; waits = λ t. f.waits (tight a); holds = f.holds };
+        slots = λ a k l. let f = h.slots a k l in record { counted = f.counted; ends = f.ends; over = f.over; waits = λ t. f.waits (tight a.app); holds = f.holds };
       }
 
   pub then_leaves : {Loose : ℕ → Type 0} (c : Came) (next : PlainPorts → Came) → Leaves Is Loose m ordinals books apps c
@@ -112,51 +114,51 @@ pub record IsResting (v : View) : Type 0 where
   pub waits : v.waits ≡ None
 
 -- it has one
-pub record IsReliable (Is : Numbering → ℕ → ℕ → Now → Type 0) (m : Numbering) (app slot : ℕ) (v : View) : Type 0 where
+pub record IsReliable (Is : Numbering → Seat → Now → Type 0) (m : Numbering) (seat : Seat) (v : View) : Type 0 where
   pub connection : Connection
   pub what : v.what ≡ has.Open connection
   pub reliable : is_reliable v.terms.flags ≡ true
-  pub holds : Is m app slot (now_of v)
+  pub holds : Is m seat (now_of v)
 
-module _ (Is : Numbering → ℕ → ℕ → Now → Type 0) (m : Numbering) (app slot : ℕ) where
-  pub used : (w : Slot) (t : Terms) (n : Now) (c : Connection) → w ≡ has.Open c → is_reliable t.flags ≡ true → IsSlot Is w t m app slot n → Is m app slot n
-  used w t n c e f h = subst (λ (b : Bool). IsInUse Is b m app slot n) f (subst (λ (w : Slot). IsSlot Is w t m app slot n) e h)
+module _ (Is : Numbering → Seat → Now → Type 0) (m : Numbering) (seat : Seat) where
+  pub used : (w : Slot) (t : Terms) (n : Now) (c : Connection) → w ≡ has.Open c → is_reliable t.flags ≡ true → IsSlot Is w t m seat n → Is m seat n
+  used w t n c e f h = subst (λ (b : Bool). IsInUse Is b m seat n) f (subst (λ (w : Slot). IsSlot Is w t m seat n) e h)
 
-  pub using : (w : Slot) (t : Terms) (n : Now) (c : Connection) → w ≡ has.Open c → is_reliable t.flags ≡ true → Is m app slot n → IsSlot Is w t m app slot n
-  using w t n c e f h = subst (λ (w : Slot). IsSlot Is w t m app slot n) (sym e) (subst (λ (b : Bool). IsInUse Is b m app slot n) (sym f) h)
+  pub using : (w : Slot) (t : Terms) (n : Now) (c : Connection) → w ≡ has.Open c → is_reliable t.flags ≡ true → Is m seat n → IsSlot Is w t m seat n
+  using w t n c e f h = subst (λ (w : Slot). IsSlot Is w t m seat n) (sym e) (subst (λ (b : Bool). IsInUse Is b m seat n) (sym f) h)
 
-  pub either : (v : View) → IsSlot Is v.what v.terms m app slot (now_of v) → IsResting v ⊎ IsReliable Is m app slot v
+  pub either : (v : View) → IsSlot Is v.what v.terms m seat (now_of v) → IsResting v ⊎ IsReliable Is m seat v
   either v h = by_slot v.what refl
     where
-      by_flags : (c : Connection) (b : Bool) → v.what ≡ has.Open c → is_reliable v.terms.flags ≡ b → IsResting v ⊎ IsReliable Is m app slot v
+      by_flags : (c : Connection) (b : Bool) → v.what ≡ has.Open c → is_reliable v.terms.flags ≡ b → IsResting v ⊎ IsReliable Is m seat v
       by_flags c true e f = inr (record { connection = c; what = e; reliable = f; holds = used v.what v.terms (now_of v) c e f h })
       by_flags c false e f =
-          let k : IsPlain (now_of v) = subst (λ (b : Bool). IsInUse Is b m app slot (now_of v)) f (subst (λ (w : Slot). IsSlot Is w v.terms m app slot (now_of v)) e h) in
+          let k : IsPlain (now_of v) = subst (λ (b : Bool). IsInUse Is b m seat (now_of v)) f (subst (λ (w : Slot). IsSlot Is w v.terms m seat (now_of v)) e h) in
           inl (record { machine = k.machine; waits = k.waits })
 
-      by_slot : (w : Slot) → v.what ≡ w → IsResting v ⊎ IsReliable Is m app slot v
+      by_slot : (w : Slot) → v.what ≡ w → IsResting v ⊎ IsReliable Is m seat v
       by_slot has.Free e =
-          let k : IsVacant (now_of v) × (v.terms.wish ≡ wish.Nothing) = subst (λ (w : Slot). IsSlot Is w v.terms m app slot (now_of v)) e h in
+          let k : IsVacant (now_of v) × (v.terms.wish ≡ wish.Nothing) = subst (λ (w : Slot). IsSlot Is w v.terms m seat (now_of v)) e h in
           inl (record { machine = k.0.machine; waits = k.0.waits })
       by_slot has.Held e =
-          let k : IsVacant (now_of v) = subst (λ (w : Slot). IsSlot Is w v.terms m app slot (now_of v)) e h in
+          let k : IsVacant (now_of v) = subst (λ (w : Slot). IsSlot Is w v.terms m seat (now_of v)) e h in
           inl (record { machine = k.machine; waits = k.waits })
       by_slot (has.Open c) e = by_flags c (is_reliable v.terms.flags) e refl
 
 -- ---- other connections are made
 
-module _ {o : Origin} {C : Coming} {Is : Numbering → ℕ → ℕ → Now → Type 0} (kept : IsKept o C Is) where
-  grown_use : (b : Bool) (old new : Numbering) (app slot : ℕ) (n : Now) → GoesOn old new → IsInUse Is b old app slot n → IsInUse Is b new app slot n
-  grown_use true old new app slot n g h = kept.grows old new app slot n g h
-  grown_use false old new app slot n g h = h
+module _ {o : OwnFlows} {C : Coming} {Is : Numbering → Seat → Now → Type 0} (kept : IsKept o C Is) where
+  grown_use : (b : Bool) (old new : Numbering) (seat : Seat) (n : Now) → GoesOn old new → IsInUse Is b old seat n → IsInUse Is b new seat n
+  grown_use true old new seat n g h = kept.grows old new seat n g h
+  grown_use false old new seat n g h = h
 
-  grown_slot : (w : Slot) (t : Terms) (old new : Numbering) (app slot : ℕ) (n : Now) → GoesOn old new → IsSlot Is w t old app slot n → IsSlot Is w t new app slot n
-  grown_slot has.Free t old new app slot n g h = h
-  grown_slot has.Held t old new app slot n g h = h
-  grown_slot (has.Open c) t old new app slot n g h = grown_use (is_reliable t.flags) old new app slot n g h
+  grown_slot : (w : Slot) (t : Terms) (old new : Numbering) (seat : Seat) (n : Now) → GoesOn old new → IsSlot Is w t old seat n → IsSlot Is w t new seat n
+  grown_slot has.Free t old new seat n g h = h
+  grown_slot has.Held t old new seat n g h = h
+  grown_slot (has.Open c) t old new seat n g h = grown_use (is_reliable t.flags) old new seat n g h
 
-  pub grown_but : {Tight : ℕ → Type 0} {old : Numbering} {ordinals : Ordinals} {books : Books} {p : PlainPorts} {app slot : ℕ} {v : View} (new : Numbering) → GoesOn old new → new.made ≡ old.made + 1 → AreFineBut Is Tight old ordinals books p app slot v
-      → AreFineBut Is Tight new ordinals books (record p { made = p.made + 1 }) app slot v
+  pub grown_but : {Tight : ℕ → Type 0} {old : Numbering} {ordinals : Ordinals} {books : Books} {p : PlainPorts} {seat : Seat} {v : View} (new : Numbering) → GoesOn old new → new.made ≡ old.made + 1 → AreFineBut Is Tight old ordinals books p seat v
+      → AreFineBut Is Tight new ordinals books (record p { made = p.made + 1 }) seat v
   grown_but {old = old} {books = books} {p = p} new g more h = record {
     shape = record {
       few = h.shape.few;
@@ -171,8 +173,9 @@ module _ {o : Origin} {C : Coming} {Is : Numbering → ℕ → ℕ → Now → T
     here = h.here;
     there = h.there;
     seen = h.seen;
-    others = λ a s k l t.
-        let f = h.others a s k l t in
-        let x = view p books a s in
-        record { counted = f.counted; ends = f.ends; over = f.over; waits = f.waits; holds = grown_slot x.what x.terms old new a s (now_of x) g f.holds };
+    others = λ a k l t.
+        let f = h.others a k l t in
+        let x = view p books a in
+        record { counted = f.counted; ends = f.ends; over = f.over; waits = f.waits; holds = grown_slot x.what x.terms old new a (now_of x) g f.holds };
   }
+

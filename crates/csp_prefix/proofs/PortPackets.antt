@@ -1,6 +1,7 @@
 -- packets that are handed to a reliable connection, and packets that it delivers
 use Rattle.std.specs.Prelude.{Bool, true, false, None, Option, Some}
 use Rattle.std.proofs.Common.{◌≡◌, ◌⊎◌, inl, inr, ℕ, ◌<◌, [], ◌∷◌, ◌++◌, ap, refl, sym, subst, ◌∙◌}
+use Rattle.csp_base.specs.declared.seat.Seat.{Seat}
 use Rattle.csp_base.specs.declared.traces.Tag.{Tag}
 use Rattle.csp_buffer.specs.Content.{Content}
 use Rattle.csp_buffer.specs.PlainBuffer.{PlainBuffer}
@@ -10,7 +11,7 @@ use Rattle.csp_ports.specs.Packets.{back_by, handing, handing_event}
 use Rattle.csp_ports.specs.PlainPorts.{PlainPorts, anywhere, has_machine, machine_at}
 use Rattle.csp_ports.specs.Steps.{dropped, settled, went, where_machine}
 use Rattle.csp_ports.specs.Tasks.{delivered, without_packet}
-use Rattle.csp_ports.specs.declared.origin.Origin.{Origin}
+use Rattle.csp_ports.specs.declared.flows.OwnFlows.{OwnFlows}
 use Rattle.csp_rdp.specs.Jobs.{delivering, delivery, delivery_in, without_delivery}
 use Rattle.csp_rdp.specs.Machine.{PlainRdp}
 use Rattle.csp_rdp.specs.Table.{after, back_of, after_packet as handed, is_stray, row_in, row_of}
@@ -33,14 +34,14 @@ use Rattle.csp_conn.specs.PlainConns.{slot_at}
 abbrev pub Others : ℕ → ℕ → Type 0
 Others app a = a ≡ app → ⊥
 
-pub loosened : {Is : Numbering → ℕ → ℕ → Now → Type 0} {m : Numbering} {ordinals : Ordinals} {books : Books} {p : PlainPorts} {Tight : ℕ → Type 0} → AreFine Is All m ordinals books p → AreFine Is Tight m ordinals books p
+pub loosened : {Is : Numbering → Seat → Now → Type 0} {m : Numbering} {ordinals : Ordinals} {books : Books} {p : PlainPorts} {Tight : ℕ → Type 0} → AreFine Is All m ordinals books p → AreFine Is Tight m ordinals books p
 loosened h = record {
   shape = h.shape;
-  slots = λ a s k l. let f = h.slots a s k l in record { counted = f.counted; ends = f.ends; over = f.over; waits = λ _. f.waits tt; holds = f.holds };
+  slots = λ a k l. let f = h.slots a k l in record { counted = f.counted; ends = f.ends; over = f.over; waits = λ _. f.waits tt; holds = f.holds };
 }
 
 -- after the step of a connection the packet of its application that waits is looked at
-module _ {o : Origin} {C : Coming} {Is : Numbering → ℕ → ℕ → Now → Type 0} (kept : IsKept o C Is)
+module _ {o : OwnFlows} {C : Coming} {Is : Numbering → Seat → Now → Type 0} (kept : IsKept o C Is)
     {m : Numbering} {ordinals : Ordinals} {apps app : ℕ} where
   dropped_next : {books : Books} {q : PlainPorts} → q.conns.apps ≡ apps → app < apps → AreFine Is (Others app) m ordinals books q → Leaves Is All m ordinals books apps (dropped app q)
   dropped_next {books} {q} same here h =
@@ -68,7 +69,7 @@ closed_stays : (h : RdpHead) (tag : Option Tag) (b : PlainBuffer) (time : ℕ) (
 closed_stays h tag b time r e = ap (λ (s : State). (after (row_in s r h b.picture.payload) h tag b time r).state) e ∙ e
 
 -- its buffer may be handed back, which is told
-module _ {Is : Numbering → ℕ → ℕ → Now → Type 0} {Tight : ℕ → Type 0} {m : Numbering} {ordinals : Ordinals} {books : Books} {apps : ℕ} where
+module _ {Is : Numbering → Seat → Now → Type 0} {Tight : ℕ → Type 0} {m : Numbering} {ordinals : Ordinals} {books : Books} {apps : ℕ} where
   backed : (back : Option PlainBuffer) (stray : Bool) (p : PlainPorts) (next : PlainPorts → Came) → Leaves Is Tight m ordinals books apps (next p) → Leaves Is Tight m ordinals books apps (then (back_by back stray p) next)
   backed None stray p next k = record { same = k.same; new = k.new; fine = k.fine }
   backed (Some b) true p next k = record { same = k.same; new = (tt, k.new); fine = k.fine }
@@ -77,15 +78,15 @@ module _ {Is : Numbering → ℕ → ℕ → Now → Type 0} {Tight : ℕ → Ty
   told_handed : (r : PlainRdp) (tag : Option Tag) (c : Came) → Leaves Is Tight m ordinals books apps c → Leaves Is Tight m ordinals books apps (reporting (handing_event r tag) c)
   told_handed r tag c k = record { same = k.same; new = (tt, k.new); fine = k.fine }
 
-module _ {o : Origin} {C : Coming} {Is : Numbering → ℕ → ℕ → Now → Type 0} (kept : IsKept o C Is)
-    {m : Numbering} {ordinals : Ordinals} {books : Books} {p : PlainPorts} (app slot : ℕ) (here : app < p.conns.apps) (there : slot < SLOTS) (g : AreGood Is m ordinals books p) where
-  handed_edge : (h : RdpHead) (b : Content) (time : ℕ) → IsReliableOn p app slot → C.fed (connection_in (slot_at p.conns app slot)) (machine_at p app slot) h b.trace.tag b.payload
-      → IsEdge Is m (ordinals app slot) app slot (machine_at p app slot).state (handed h b.trace.tag (anywhere b) time (machine_at p app slot)) (view p books app slot)
+module _ {o : OwnFlows} {C : Coming} {Is : Numbering → Seat → Now → Type 0} (kept : IsKept o C Is)
+    {m : Numbering} {ordinals : Ordinals} {books : Books} {p : PlainPorts} (seat : Seat) (here : seat.app < p.conns.apps) (there : seat.slot < SLOTS) (g : AreGood Is m ordinals books p) where
+  handed_edge : (h : RdpHead) (b : Content) (time : ℕ) → IsReliableOn p seat → C.fed (connection_in (slot_at p.conns seat)) (machine_at p seat) h b.trace.tag b.payload
+      → IsEdge Is m (ordinals seat) seat (machine_at p seat).state (handed h b.trace.tag (anywhere b) time (machine_at p seat)) (view p books seat)
   handed_edge h b time on fed =
-      let x = view p books app slot in
+      let x = view p books seat in
       let r = handed h b.trace.tag (anywhere b) time x.machine in
-      let f = (fine_of g).slots app slot here there in
-      let is : Is m app slot (now_of x) = used Is m app slot x.what x.terms (now_of x) on.connection on.there on.reliable f.holds in
+      let f = (fine_of g).slots seat here there in
+      let is : Is m seat (now_of x) = used Is m seat x.what x.terms (now_of x) on.connection on.there on.reliable f.holds in
       record {
         connection = on.connection;
         what = on.there;
@@ -94,25 +95,25 @@ module _ {o : Origin} {C : Coming} {Is : Numbering → ℕ → ℕ → Now → T
         ends = f.ends;
         over = f.over;
         stays = closed_stays h b.trace.tag (anywhere b) time x.machine;
-        early = kept.early m app slot (now_of x) is;
-        opens = λ k. kept.rests m app slot (after_opening (with_other r (now_of x))) (kept.opens m app slot (now_of x) h b.trace.tag (anywhere b) time fed k is);
-        rests = λ k. kept.rests m app slot (with_other r (now_of x)) (kept.hears m app slot (now_of x) h b.trace.tag (anywhere b) time fed k is);
+        early = kept.early m seat (now_of x) is;
+        opens = λ k. kept.rests m seat (after_opening (with_other r (now_of x))) (kept.opens m seat (now_of x) h b.trace.tag (anywhere b) time fed k is);
+        rests = λ k. kept.rests m seat (with_other r (now_of x)) (kept.hears m seat (now_of x) h b.trace.tag (anywhere b) time fed k is);
       }
 
-  pub handed_comes : (h : RdpHead) (b : Content) (time : ℕ) → IsReliableOn p app slot → C.fed (connection_in (slot_at p.conns app slot)) (machine_at p app slot) h b.trace.tag b.payload → Comes Is m ordinals books p.conns.apps (handing p app slot h b time)
+  pub handed_comes : (h : RdpHead) (b : Content) (time : ℕ) → IsReliableOn p seat → C.fed (connection_in (slot_at p.conns seat)) (machine_at p seat) h b.trace.tag b.payload → Comes Is m ordinals books p.conns.apps (handing p seat h b time)
   handed_comes h b time on fed =
-      let r = machine_at p app slot in
+      let r = machine_at p seat in
       let row = row_of r h b.payload in
       let new = handed h b.trace.tag (anywhere b) time r in
-      let step : PlainPorts → Came = went r.state machine_why.Reset app slot new in
-      let c = where_machine (has_machine p app slot) step p in
+      let step : PlainPorts → Came = went r.state machine_why.Reset seat new in
+      let c = where_machine (has_machine p seat) step p in
       let next : PlainPorts → Came =
-      λ p. then (where_machine (has_machine p app slot) step p) (λ p. then (dropped app p) (λ p. come (settled time app p))) in
+      λ p. then (where_machine (has_machine p seat) step p) (λ p. then (dropped seat.app p) (λ p. come (settled time seat.app p))) in
       comes_of
       (told_handed r b.trace.tag (then (back_by (back_of row (anywhere b)) (is_stray row) p) next)
       (backed (back_of row (anywhere b)) (is_stray row) p next
       (then_settled kept c time here
-      (where_leaves (has_machine p app slot) step (went_leaves kept (look app slot here there (loosened (fine_of g))) r.state machine_why.Reset new (λ k. k refl) (handed_edge h b time on fed)) (record { same = refl; new = tt; fine = loosened (fine_of g) })))))
+      (where_leaves (has_machine p seat) step (went_leaves kept (look seat here there (loosened (fine_of g))) r.state machine_why.Reset new (λ k. k refl) (handed_edge h b time on fed)) (record { same = refl; new = tt; fine = loosened (fine_of g) })))))
       (λ _. tt)
 
 -- ---- a packet is delivered
@@ -140,19 +141,19 @@ delivery_open r b e = go r.state e
     go CloseWait e = absurd (none_some b e)
     go Closed e = absurd (none_some b e)
 
-module _ {o : Origin} {C : Coming} {Is : Numbering → ℕ → ℕ → Now → Type 0} (kept : IsKept o C Is)
-    {m : Numbering} {ordinals : Ordinals} {books : Books} {p : PlainPorts} (app slot : ℕ) (here : app < p.conns.apps) (there : slot < SLOTS) (g : AreGood Is m ordinals books p) where
+module _ {o : OwnFlows} {C : Coming} {Is : Numbering → Seat → Now → Type 0} (kept : IsKept o C Is)
+    {m : Numbering} {ordinals : Ordinals} {books : Books} {p : PlainPorts} (seat : Seat) (here : seat.app < p.conns.apps) (there : seat.slot < SLOTS) (g : AreGood Is m ordinals books p) where
   -- what the slot shows then
   abbrev delivered_view : PlainBuffer → View
-  delivered_view b = let x = view p books app slot in record x { machine = without_delivery x.machine; book = record x.book { down = x.book.down ++ b.picture.payload ∷ [] } }
+  delivered_view b = let x = view p books seat in record x { machine = without_delivery x.machine; book = record x.book { down = x.book.down ++ b.picture.payload ∷ [] } }
 
-  delivered_edge : (time : ℕ) (b : PlainBuffer) → delivery (machine_at p app slot) ≡ Some b
-      → IsEdge Is m (ordinals app slot) app slot (without_delivery (machine_at p app slot)).state (delivering time (without_delivery (machine_at p app slot))) (delivered_view b)
+  delivered_edge : (time : ℕ) (b : PlainBuffer) → delivery (machine_at p seat) ≡ Some b
+      → IsEdge Is m (ordinals seat) seat (without_delivery (machine_at p seat)).state (delivering time (without_delivery (machine_at p seat))) (delivered_view b)
   delivered_edge time b e =
-      let x = view p books app slot in
+      let x = view p books seat in
       let r = delivering time (without_delivery x.machine) in
-      let f = (fine_of g).slots app slot here there in
-      let k : IsReliable Is m app slot x = used_on app slot here there g (λ f. idle_delivery (machine_at p app slot) b f e) in
+      let f = (fine_of g).slots seat here there in
+      let k : IsReliable Is m seat x = used_on seat here there g (λ f. idle_delivery (machine_at p seat) b f e) in
       let opened : Open ≡ (without_delivery x.machine).state = sym (taken_state x.machine ∙ delivery_open x.machine b e) in
       record {
         connection = k.connection;
@@ -164,18 +165,19 @@ module _ {o : Origin} {C : Coming} {Is : Numbering → ℕ → ℕ → Now → T
         stays = λ c. absurd (open_closed (opened ∙ c));
         early = λ s. absurd (open_before (without_delivery x.machine).state opened s);
         opens = λ s. absurd (subst (λ (b : State). Opens b r.state) (sym opened) s);
-        rests = λ _. kept.rests m app slot (after_delivering b.picture.payload (with_other r (now_of x))) (kept.delivers m app slot (now_of x) b time e k.holds);
+        rests = λ _. kept.rests m seat (after_delivering b.picture.payload (with_other r (now_of x))) (kept.delivers m seat (now_of x) b time e k.holds);
       }
 
-  pub delivered_comes : (time : ℕ) (b : PlainBuffer) → delivery (machine_at p app slot) ≡ Some b
-      → Comes Is m ordinals (with_down app slot b.picture.payload books) p.conns.apps (delivered time app slot (without_packet app slot p))
+  pub delivered_comes : (time : ℕ) (b : PlainBuffer) → delivery (machine_at p seat) ≡ Some b
+      → Comes Is m ordinals (with_down seat b.picture.payload books) p.conns.apps (delivered time seat (without_packet seat p))
   delivered_comes time b e =
-      let x = view p books app slot in
-      let q = without_packet app slot p in
-      let h : AreFineBut Is (Others app) m ordinals (with_down app slot b.picture.payload books) q app slot (delivered_view b) =
-      book_but (machine_but (look app slot here there (loosened (fine_of g))) (without_delivery x.machine)) (record (books app slot) { down = (books app slot).down ++ b.picture.payload ∷ [] }) in
-      subst (λ (r : PlainRdp). Comes Is m ordinals (with_down app slot b.picture.payload books) p.conns.apps (then (went r.state machine_why.Reset app slot (delivering time r) q) (dropped app))) (sym (ap (λ (v : View). v.machine) h.seen))
+      let x = view p books seat in
+      let q = without_packet seat p in
+      let h : AreFineBut Is (Others seat.app) m ordinals (with_down seat b.picture.payload books) q seat (delivered_view b) =
+      book_but (machine_but (look seat here there (loosened (fine_of g))) (without_delivery x.machine)) (record (books seat) { down = (books seat).down ++ b.picture.payload ∷ [] }) in
+      subst (λ (r : PlainRdp). Comes Is m ordinals (with_down seat b.picture.payload books) p.conns.apps (then (went r.state machine_why.Reset seat (delivering time r) q) (dropped seat.app))) (sym (ap (λ (v : View). v.machine) h.seen))
       (comes_of
-      (then_dropped kept (went (without_delivery x.machine).state machine_why.Reset app slot (delivering time (without_delivery x.machine)) q) here
+      (then_dropped kept (went (without_delivery x.machine).state machine_why.Reset seat (delivering time (without_delivery x.machine)) q) here
       (went_leaves kept h (without_delivery x.machine).state machine_why.Reset (delivering time (without_delivery x.machine)) (λ k. k refl) (delivered_edge time b e)))
       (λ _. tt))
+

@@ -1,9 +1,10 @@
 -- steps of the ports that tell the log nothing
-use Rattle.std.specs.Prelude.{◌==◌, Bool, true, false, IfSome, None, Option, Some, get_or, nat_lt, replicate, slice_set}
+use Rattle.std.specs.Prelude.{◌==◌, Bool, true, false, IfSome, None, Option, Some, get_or, if◌then◌else◌, is_some, nat_lt, replicate, slice_set}
 use Rattle.std.proofs.Common.{◌≡◌, ◌⊎◌, inl, inr, ℕ, zero, suc, ◌*◌, ◌<◌, ◌≤◌, List, length, ap, refl, sym, subst, ◌∙◌}
 use Rattle.std.proofs.Math.ListN.{length-replicate}
 use Rattle.std.proofs.lemmas.Bool.{eqb-false, eqb-true, ltb-false, ltb-true}
 use Rattle.std.proofs.lemmas.List.{get_or-set_other, get_or-set_same, length-set, set_past}
+use Rattle.csp_base.specs.declared.seat.Seat.{Seat}
 use Rattle.csp_buffer.specs.PlainBuffer.{PlainBuffer}
 use Rattle.csp_conn.specs.PlainConns.{place_of}
 use Rattle.csp_base.specs.declared.limits.TheConstants.{MAX_APPS, SLOTS}
@@ -13,10 +14,10 @@ use Rattle.csp_deck.specs.Carried.{IsReply}
 use Rattle.csp_log.specs.declared.note.Note.{Note}
 use Rattle.csp_log.specs.declared.note.Note.TheVariants as note
 use Rattle.csp_log.specs.declared.note.Why.TheVariants as why
-use Rattle.csp_ports.specs.Asking.{bind, bind_by}
+use Rattle.csp_ports.specs.Asking.{bind}
 use Rattle.csp_ports.specs.PlainPorts.{PlainPorts, anywhere, machine_at, machine_in, owing, ports_of, state_at, terms_at, untouched, with_machine}
 use Rattle.csp_ports.specs.Tasks.{kept_again, making, told_down, turned, without_packet}
-use Rattle.csp_ports.specs.declared.origin.Origin.{Origin}
+use Rattle.csp_ports.specs.declared.flows.OwnFlows.{OwnFlows}
 use Rattle.csp_ports.specs.declared.terms.SlotState.{SlotState}
 use Rattle.csp_ports.specs.declared.terms.Terms.{Terms}
 use Rattle.csp_rdp.specs.Jobs.{delivery, job_of, keeping_again, sent, taken_in, without_delivery}
@@ -57,9 +58,9 @@ replicate_get (suc n) (suc i) x = replicate_get n i x
 abbrev untold : SlotState → SlotState
 untold x = record x { terms = record x.terms { is_down = false } }
 
-module _ {Is : Numbering → ℕ → ℕ → Now → Type 0} {m : Numbering} {ordinals : Ordinals} {books : Books} {p : PlainPorts} (g : AreGood Is m ordinals books p) where
-  pub turned_good : (app slot : ℕ) → AreGood Is m ordinals books (turned app slot p)
-  turned_good app slot = record {
+module _ {Is : Numbering → Seat → Now → Type 0} {m : Numbering} {ordinals : Ordinals} {books : Books} {p : PlainPorts} (g : AreGood Is m ordinals books p) where
+  pub turned_good : (seat : Seat) → AreGood Is m ordinals books (turned seat p)
+  turned_good seat = record {
     few = g.few;
     conns = g.conns;
     states = g.states;
@@ -74,27 +75,27 @@ module _ {Is : Numbering → ℕ → ℕ → Now → Type 0} {m : Numbering} {or
     slots = g.slots;
   }
 
-  pub told_good : (app slot : ℕ) → AreGood Is m ordinals books (told_down app slot p)
-  told_good app slot =
+  pub told_good : (seat : Seat) → AreGood Is m ordinals books (told_down seat p)
+  told_good seat =
       let h = fine_of g in
       good_of (record {
-        shape = reshaped p.conns.slots p.conns.last _ p.owed refl (length-set p.slots (place_of app slot) (untold (state_at p app slot))) g.owed h.shape;
-        slots = λ a s k l.
-            let f = h.slots a s k l in
-            set_all p.slots (place_of app slot) (place_of a s) (untold (state_at p app slot)) untouched
-            (λ (x : SlotState). IsFine Is All m (ordinals a s) a s (record (view p books a s) { terms = x.terms; machine = machine_in x }))
-            (λ e. subst (λ (k : ℕ). let x = untold (get_or p.slots k untouched) in IsFine Is All m (ordinals a s) a s (record (view p books a s) { terms = x.terms; machine = machine_in x })) e
-            (told_fine (view p books a s) f))
+        shape = reshaped p.conns.slots p.conns.last _ p.owed refl (length-set p.slots (place_of seat) (untold (state_at p seat))) g.owed h.shape;
+        slots = λ a k l.
+            let f = h.slots a k l in
+            set_all p.slots (place_of seat) (place_of a) (untold (state_at p seat)) untouched
+            (λ (x : SlotState). IsFine Is All m (ordinals a) a (record (view p books a) { terms = x.terms; machine = machine_in x }))
+            (λ e. subst (λ (k : ℕ). let x = untold (get_or p.slots k untouched) in IsFine Is All m (ordinals a) a (record (view p books a) { terms = x.terms; machine = machine_in x })) e
+            (told_fine (view p books a) f))
             f;
       })
     where
-      told_slot : (w : Slot) (t : Terms) (a s : ℕ) (n : Now) → IsSlot Is w t m a s n → IsSlot Is w (record t { is_down = false }) m a s n
-      told_slot has.Free t a s n h = h
-      told_slot has.Held t a s n h = h
-      told_slot (has.Open c) t a s n h = h
+      told_slot : (w : Slot) (t : Terms) (a : Seat) (n : Now) → IsSlot Is w t m a n → IsSlot Is w (record t { is_down = false }) m a n
+      told_slot has.Free t a n h = h
+      told_slot has.Held t a n h = h
+      told_slot (has.Open c) t a n h = h
 
-      told_fine : {ordinal a s : ℕ} (v : View) → IsFine Is All m ordinal a s v → IsFine Is All m ordinal a s (record v { terms = record v.terms { is_down = false } })
-      told_fine {ordinal} {a} {s} v f = record { counted = f.counted; ends = f.ends; over = f.over; waits = f.waits; holds = told_slot v.what v.terms a s (now_of v) f.holds }
+      told_fine : {ordinal : ℕ} {a : Seat} (v : View) → IsFine Is All m ordinal a v → IsFine Is All m ordinal a (record v { terms = record v.terms { is_down = false } })
+      told_fine {ordinal} {a} v f = record { counted = f.counted; ends = f.ends; over = f.over; waits = f.waits; holds = told_slot v.what v.terms a (now_of v) f.holds }
 
   -- ---- ports
 
@@ -103,7 +104,7 @@ module _ {Is : Numbering → ℕ → ℕ → Now → Type 0} {m : Numbering} {or
       let h = fine_of g in
       good_of (record {
         shape = owing_shape app answer h.shape here reply;
-        slots = λ a s k l. subst (IsFine Is All m (ordinals a s) a s) (sym (owing_quiet p books app answer a s none)) (h.slots a s k l);
+        slots = λ a k l. subst (IsFine Is All m (ordinals a) a) (sym (owing_quiet p books app answer a none)) (h.slots a k l);
       })
 
   owned_good : (app port need : ℕ) → app < p.conns.apps → AreGood Is m ordinals books (record p { bound = with_owner p.bound port app need })
@@ -123,18 +124,20 @@ module _ {Is : Numbering → ℕ → ℕ → Now → Type 0} {m : Numbering} {or
   }
 
 -- a port is bound, or not
-module _ {Is : Numbering → ℕ → ℕ → Now → Type 0} {m : Numbering} {ordinals : Ordinals} {books : Books} {p : PlainPorts} (g : AreGood Is m ordinals books p) where
-  bound_by : (b : Bool) (owner : Option (ℕ × ℕ)) (app port need : ℕ) → app < p.conns.apps → AreGood Is m ordinals books (bind_by b owner p app port need)
-  bound_by false owner app port need here = owing_good g app (note.Refused why.NotBindable) here tt (λ s. refl)
-  bound_by true (Some owner) app port need here = owing_good g app (note.Refused why.InUse) here tt (λ s. refl)
-  bound_by true None app port need here = owing_good (owned_good g app port need here) app note.Bound here tt (λ s. refl)
+module _ {Is : Numbering → Seat → Now → Type 0} {m : Numbering} {ordinals : Ordinals} {books : Books} {p : PlainPorts} (g : AreGood Is m ordinals books p) where
+  chosen_good : (b : Bool) {x y : PlainPorts} → AreGood Is m ordinals books x → AreGood Is m ordinals books y → AreGood Is m ordinals books (if b then x else y)
+  chosen_good true h k = h
+  chosen_good false h k = k
 
   pub bound_good : (app port need : ℕ) → app < p.conns.apps → AreGood Is m ordinals books (bind p app port need)
-  bound_good app port need here = bound_by _ (owner_of p.bound port) app port need here
+  bound_good app port need here =
+      chosen_good _
+      (chosen_good (is_some (owner_of p.bound port)) (owing_good g app (note.Refused why.InUse) here tt (λ s. refl)) (owing_good (owned_good g app port need here) app note.Bound here tt (λ s. refl)))
+      (owing_good g app (note.Refused why.NotBindable) here tt (λ s. refl))
 
 -- ---- the opening
 
-pub opens_good : (Is : Numbering → ℕ → ℕ → Now → Type 0) (apps : ℕ) (home : ℕ → ℕ × ℕ × ℕ) → apps ≤ MAX_APPS → AreGood Is (record { made = 0; home = home }) (λ _ _. 0) (λ _ _. blank) (ports_of apps)
+pub opens_good : (Is : Numbering → Seat → Now → Type 0) (apps : ℕ) (home : ℕ → Seat × ℕ) → apps ≤ MAX_APPS → AreGood Is (record { made = 0; home = home }) (λ _. 0) (λ _. blank) (ports_of apps)
 opens_good Is apps home few = record {
   few = few;
   conns = length-replicate (apps * SLOTS) has.Free;
@@ -143,13 +146,13 @@ opens_good Is apps home few = record {
   made = refl;
   owners = λ port. subst (λ (x : Option (ℕ × ℕ)). IfSome x (λ o. o.0 < apps)) (sym (replicate_get 48 port None)) tt;
   owed = tt;
-  counted = λ a s k l. ap (λ (x : SlotState). x.terms.ordinal) (replicate_get 16 (place_of a s) untouched);
-  waits = λ a s k e. absurd (none_some s (sym (replicate_get 4 a None) ∙ e));
-  ends = λ a s k l. ap (λ (x : SlotState). ends_due x.terms.wish) (sym (replicate_get 16 (place_of a s) untouched));
-  over = λ a s k l e. ap (λ (x : SlotState). (machine_in x).state) (replicate_get 16 (place_of a s) untouched);
-  slots = λ a s k l.
-      subst (λ (w : Slot). IsSlot Is w (terms_at (ports_of apps) a s) (record { made = 0; home = home }) a s (now_at (ports_of apps) (λ _ _. blank) a s)) (sym (replicate_get (apps * SLOTS) (place_of a s) has.Free))
-      (record { machine = ap machine_in (replicate_get 16 (place_of a s) untouched); waits = ap (waiting_on s) (replicate_get 4 a None); book = refl }, ap (λ (x : SlotState). x.terms.wish) (replicate_get 16 (place_of a s) untouched));
+  counted = λ a k l. ap (λ (x : SlotState). x.terms.ordinal) (replicate_get 16 (place_of a) untouched);
+  waits = λ app s k e. absurd (none_some s (sym (replicate_get 4 app None) ∙ e));
+  ends = λ a k l. ap (λ (x : SlotState). ends_due x.terms.wish) (sym (replicate_get 16 (place_of a) untouched));
+  over = λ a k l e. ap (λ (x : SlotState). (machine_in x).state) (replicate_get 16 (place_of a) untouched);
+  slots = λ a k l.
+      subst (λ (w : Slot). IsSlot Is w (terms_at (ports_of apps) a) (record { made = 0; home = home }) a (now_at (ports_of apps) (λ _. blank) a)) (sym (replicate_get (apps * SLOTS) (place_of a) has.Free))
+      (record { machine = ap machine_in (replicate_get 16 (place_of a) untouched); waits = ap (waiting_on a.slot) (replicate_get 4 a.app None); book = refl }, ap (λ (x : SlotState). x.terms.wish) (replicate_get 16 (place_of a) untouched));
 }
 
 -- ---- the connection of a slot as it is
@@ -180,52 +183,53 @@ taken_state r = go r.state
     go Closed = refl
 
 -- a reliable connection on a fine slot, where there is one
-pub use_of : {Is : Numbering → ℕ → ℕ → Now → Type 0} {Tight : ℕ → Type 0} {m : Numbering} {ordinal app slot : ℕ} {v : View} → IsFine Is Tight m ordinal app slot v → IsReliable Is m app slot v → IsUse Is m ordinal app slot v (now_of v)
+pub use_of : {Is : Numbering → Seat → Now → Type 0} {Tight : ℕ → Type 0} {m : Numbering} {ordinal : ℕ} {seat : Seat} {v : View} → IsFine Is Tight m ordinal seat v → IsReliable Is m seat v → IsUse Is m ordinal seat v (now_of v)
 use_of f r = record { connection = r.connection; what = r.what; reliable = r.reliable; counted = f.counted; ends = f.ends; over = f.over; holds = r.holds }
 
 -- another machine by a step that leaves its state
-pub stepped_fine : {Is : Numbering → ℕ → ℕ → Now → Type 0} {Tight : ℕ → Type 0} {m : Numbering} {ordinals : Ordinals} {books : Books} {app slot : ℕ} (q : PlainPorts) (v : View) (r : PlainRdp) → AreFineBut Is Tight m ordinals books q app slot (record v { machine = r })
-    → r.state ≡ v.machine.state → IsFine Is Tight m (ordinals app slot) app slot v → IsReliable Is m app slot v → Is m app slot (now_of (record v { machine = r })) → AreFine Is Tight m ordinals books q
+pub stepped_fine : {Is : Numbering → Seat → Now → Type 0} {Tight : ℕ → Type 0} {m : Numbering} {ordinals : Ordinals} {books : Books} {seat : Seat} (q : PlainPorts) (v : View) (r : PlainRdp) → AreFineBut Is Tight m ordinals books q seat (record v { machine = r })
+    → r.state ≡ v.machine.state → IsFine Is Tight m (ordinals seat) seat v → IsReliable Is m seat v → Is m seat (now_of (record v { machine = r })) → AreFine Is Tight m ordinals books q
 stepped_fine q v r h same f k is =
     whole h
     (use_fine {v = record v { machine = r }} (λ t payload e. same ∙ f.waits t payload e)
     (record { connection = k.connection; what = k.what; reliable = k.reliable; counted = f.counted; ends = f.ends; over = λ e. same ∙ f.over e; holds = is }))
 
-pub used_on : {Is : Numbering → ℕ → ℕ → Now → Type 0} {m : Numbering} {ordinals : Ordinals} {books : Books} {p : PlainPorts} (app slot : ℕ) → app < p.conns.apps → slot < SLOTS → AreGood Is m ordinals books p → ((machine_at p app slot ≡ idle) → ⊥) → IsReliable Is m app slot (view p books app slot)
-used_on {Is} {m} {ordinals} {books} {p} app slot here there g busy = go (either Is m app slot (view p books app slot) (g.slots app slot here there))
+pub used_on : {Is : Numbering → Seat → Now → Type 0} {m : Numbering} {ordinals : Ordinals} {books : Books} {p : PlainPorts} (seat : Seat) → seat.app < p.conns.apps → seat.slot < SLOTS → AreGood Is m ordinals books p → ((machine_at p seat ≡ idle) → ⊥) → IsReliable Is m seat (view p books seat)
+used_on {Is} {m} {ordinals} {books} {p} seat here there g busy = go (either Is m seat (view p books seat) (g.slots seat here there))
   where
-    go : IsResting (view p books app slot) ⊎ IsReliable Is m app slot (view p books app slot) → IsReliable Is m app slot (view p books app slot)
+    go : IsResting (view p books seat) ⊎ IsReliable Is m seat (view p books seat) → IsReliable Is m seat (view p books seat)
     go (inl r) = absurd (busy r.machine)
     go (inr k) = k
 
 -- another machine, by what is there
-pub machine_by : {Is : Numbering → ℕ → ℕ → Now → Type 0} {Tight : ℕ → Type 0} {m : Numbering} {ordinals : Ordinals} {books : Books} {p : PlainPorts} {app slot : ℕ} {v : View} (f : PlainRdp → PlainRdp) → AreFineBut Is Tight m ordinals books p app slot v
-    → AreFineBut Is Tight m ordinals books (with_machine p app slot (f (machine_at p app slot))) app slot (record v { machine = f v.machine })
-machine_by {Is} {Tight} {m} {ordinals} {books} {p} {app} {slot} {v} f h =
-    subst (λ (v : View). AreFineBut Is Tight m ordinals books (with_machine p app slot (f (machine_at p app slot))) app slot (record v { machine = f v.machine })) h.seen (machine_but (at_view h) (f (machine_at p app slot)))
+pub machine_by : {Is : Numbering → Seat → Now → Type 0} {Tight : ℕ → Type 0} {m : Numbering} {ordinals : Ordinals} {books : Books} {p : PlainPorts} {seat : Seat} {v : View} (f : PlainRdp → PlainRdp) → AreFineBut Is Tight m ordinals books p seat v
+    → AreFineBut Is Tight m ordinals books (with_machine p seat (f (machine_at p seat))) seat (record v { machine = f v.machine })
+machine_by {Is} {Tight} {m} {ordinals} {books} {p} {seat} {v} f h =
+    subst (λ (v : View). AreFineBut Is Tight m ordinals books (with_machine p seat (f (machine_at p seat))) seat (record v { machine = f v.machine })) h.seen (machine_but (at_view h) (f (machine_at p seat)))
 
-module _ {o : Origin} {C : Coming} {Is : Numbering → ℕ → ℕ → Now → Type 0} (kept : IsKept o C Is)
-    {m : Numbering} {ordinals : Ordinals} {books : Books} {p : PlainPorts} (app slot : ℕ) (here : app < p.conns.apps) (there : slot < SLOTS) (g : AreGood Is m ordinals books p) where
-  pub owes_good : (time : ℕ) (j : Job) → job_of time (machine_at p app slot) ≡ Some j → IsReliableOn p app slot × Is m app slot (now_at p books app slot)
+module _ {o : OwnFlows} {C : Coming} {Is : Numbering → Seat → Now → Type 0} (kept : IsKept o C Is)
+    {m : Numbering} {ordinals : Ordinals} {books : Books} {p : PlainPorts} (seat : Seat) (here : seat.app < p.conns.apps) (there : seat.slot < SLOTS) (g : AreGood Is m ordinals books p) where
+  pub owes_good : (time : ℕ) (j : Job) → job_of time (machine_at p seat) ≡ Some j → IsReliableOn p seat × Is m seat (now_at p books seat)
   owes_good time j e =
-      let k : IsReliable Is m app slot (view p books app slot) = used_on app slot here there g (λ f. idle_job time (machine_at p app slot) j f e) in
+      let k : IsReliable Is m seat (view p books seat) = used_on seat here there g (λ f. idle_job time (machine_at p seat) j f e) in
       (record { connection = k.connection; there = k.what; reliable = k.reliable }, k.holds)
 
-  pub makes_good : (time : ℕ) (j : Job) → job_of time (machine_at p app slot) ≡ Some j → AreGood Is m ordinals books (making j time app slot p)
+  pub makes_good : (time : ℕ) (j : Job) → job_of time (machine_at p seat) ≡ Some j → AreGood Is m ordinals books (making j time seat p)
   makes_good time j e =
-      let x = view p books app slot in
+      let x = view p books seat in
       let h = fine_of g in
-      let k : IsReliable Is m app slot x = used_on app slot here there g (λ f. idle_job time (machine_at p app slot) j f e) in
+      let k : IsReliable Is m seat x = used_on seat here there g (λ f. idle_job time (machine_at p seat) j f e) in
       good_of
-      (stepped_fine (making j time app slot p) x (sent j time x.machine) (machine_but (look app slot here there h) (sent j time x.machine)) (sent_state j time x.machine) (h.slots app slot here there) k
-      (kept.makes m app slot (now_of x) time j e k.holds))
+      (stepped_fine (making j time seat p) x (sent j time x.machine) (machine_but (look seat here there h) (sent j time x.machine)) (sent_state j time x.machine) (h.slots seat here there) k
+      (kept.makes m seat (now_of x) time j e k.holds))
 
-  pub keeps_good : (b : PlainBuffer) → delivery (machine_at p app slot) ≡ Some b → AreGood Is m ordinals books (kept_again app slot b.picture (without_packet app slot p))
+  pub keeps_good : (b : PlainBuffer) → delivery (machine_at p seat) ≡ Some b → AreGood Is m ordinals books (kept_again seat b.picture (without_packet seat p))
   keeps_good b e =
-      let x = view p books app slot in
+      let x = view p books seat in
       let h = fine_of g in
       let r = keeping_again (anywhere b.picture) (without_delivery x.machine) in
-      let k : IsReliable Is m app slot x = used_on app slot here there g (λ f. idle_delivery (machine_at p app slot) b f e) in
+      let k : IsReliable Is m seat x = used_on seat here there g (λ f. idle_delivery (machine_at p seat) b f e) in
       good_of
-      (stepped_fine (kept_again app slot b.picture (without_packet app slot p)) x r (machine_by (keeping_again (anywhere b.picture)) (machine_but (look app slot here there h) (without_delivery x.machine))) (taken_state x.machine) (h.slots app slot here there) k
-      (kept.keeps m app slot (now_of x) b (anywhere b.picture) e refl k.holds))
+      (stepped_fine (kept_again seat b.picture (without_packet seat p)) x r (machine_by (keeping_again (anywhere b.picture)) (machine_but (look seat here there h) (without_delivery x.machine))) (taken_state x.machine) (h.slots seat here there) k
+      (kept.keeps m seat (now_of x) b (anywhere b.picture) e refl k.holds))
+

@@ -2,6 +2,7 @@
 use Rattle.std.specs.Prelude.{Bool, true, false, None, Option, Some, if◌then◌else◌}
 use Rattle.std.proofs.Common.{◌≡◌, ◌≢◌, ℕ, ◌<◌, List, [], ◌∷◌, ◌++◌, ap, refl, sym, subst}
 use Rattle.std.proofs.lemmas.Bool.{eq-eqb}
+use Rattle.csp_base.specs.declared.seat.Seat.{Seat}
 use Rattle.csp_buffer.specs.Content.{Content}
 use Rattle.csp_base.specs.declared.limits.TheConstants.{SLOTS}
 use Rattle.csp_log.specs.declared.event.Discard.TheVariants as why
@@ -9,7 +10,7 @@ use Rattle.csp_log.specs.declared.event.Event.TheVariants as event
 use Rattle.csp_ports.specs.Packets.{admitting_by, submitting, submitting_in}
 use Rattle.csp_ports.specs.PlainPorts.{PlainPorts, PlainStalled, anywhere, machine_at, stalled_at, terms_at}
 use Rattle.csp_ports.specs.Steps.{has_room}
-use Rattle.csp_ports.specs.declared.origin.Origin.{Origin}
+use Rattle.csp_ports.specs.declared.flows.OwnFlows.{OwnFlows}
 use Rattle.csp_rdp.specs.Jobs.{admitting}
 use Rattle.csp_rdp.specs.declared.answers.State.{State}
 use Rattle.csp_rdp.specs.declared.answers.State.TheVariants.{Closed, CloseWait, Open, SynRcvd, SynSent}
@@ -20,72 +21,72 @@ use Rattle.csp_prefix.proofs.PortViews.{now_of, view}
 use Rattle.csp_prefix.specs.Ports.{AreGood, Books, IsReliableOn, Ordinals, Submits, connection_in, waiting_on, with_sent}
 use Rattle.csp_prefix.specs.Slots.{Book, Coming, IsKept, Now, Numbering}
 
-submitting_apps : (s : State) (p : PlainPorts) (app slot : ℕ) (b : Content) (time : ℕ) → (submitting_in s p app slot b time).ports.conns.apps ≡ p.conns.apps
-submitting_apps Open p app slot b time = go (has_room (machine_at p app slot))
+submitting_apps : (s : State) (p : PlainPorts) (seat : Seat) (b : Content) (time : ℕ) → (submitting_in s p seat b time).ports.conns.apps ≡ p.conns.apps
+submitting_apps Open p seat b time = go (has_room (machine_at p seat))
   where
-    go : (room : Bool) → (admitting_by room p app slot b time).conns.apps ≡ p.conns.apps
+    go : (room : Bool) → (admitting_by room p seat b time).conns.apps ≡ p.conns.apps
     go true = refl
     go false = refl
-submitting_apps SynSent p app slot b time = refl
-submitting_apps SynRcvd p app slot b time = refl
-submitting_apps CloseWait p app slot b time = refl
-submitting_apps Closed p app slot b time = refl
+submitting_apps SynSent p seat b time = refl
+submitting_apps SynRcvd p seat b time = refl
+submitting_apps CloseWait p seat b time = refl
+submitting_apps Closed p seat b time = refl
 
-module _ {o : Origin} {C : Coming} {Is : Numbering → ℕ → ℕ → Now → Type 0} (kept : IsKept o C Is)
-    {m : Numbering} {ordinals : Ordinals} {books : Books} {p : PlainPorts} (app slot : ℕ) (b : Content) (time : ℕ) (here : app < p.conns.apps) (there : slot < SLOTS) (on : IsReliableOn p app slot) (none : stalled_at p app ≡ None) (g : AreGood Is m ordinals books p) where
-  is_there : Is m app slot (now_of (view p books app slot))
-  is_there = let x = view p books app slot in used Is m app slot x.what x.terms (now_of x) on.connection on.there on.reliable (g.slots app slot here there)
+module _ {o : OwnFlows} {C : Coming} {Is : Numbering → Seat → Now → Type 0} (kept : IsKept o C Is)
+    {m : Numbering} {ordinals : Ordinals} {books : Books} {p : PlainPorts} (seat : Seat) (b : Content) (time : ℕ) (here : seat.app < p.conns.apps) (there : seat.slot < SLOTS) (on : IsReliableOn p seat) (none : stalled_at p seat.app ≡ None) (g : AreGood Is m ordinals books p) where
+  is_there : Is m seat (now_of (view p books seat))
+  is_there = let x = view p books seat in used Is m seat x.what x.terms (now_of x) on.connection on.there on.reliable (g.slots seat here there)
 
-  none_waits : waiting_on slot (stalled_at p app) ≡ None
-  none_waits = ap (waiting_on slot) none
+  none_waits : waiting_on seat.slot (stalled_at p seat.app) ≡ None
+  none_waits = ap (waiting_on seat.slot) none
 
   -- it is told sent
   abbrev sent_book : Book
-  sent_book = record (books app slot) { sent = (books app slot).sent ++ b.payload ∷ [] }
+  sent_book = record (books seat) { sent = (books seat).sent ++ b.payload ∷ [] }
 
   abbrev stalled_now : PlainStalled
-  stalled_now = record { slot = slot; buffer = anywhere b }
+  stalled_now = record { slot = seat.slot; buffer = anywhere b }
 
-  waits_now : waiting_on slot (Some stalled_now) ≡ Some b.payload
-  waits_now = ap (λ (x : Bool). if x then Some b.payload else None) (eq-eqb slot slot refl)
+  waits_now : waiting_on seat.slot (Some stalled_now) ≡ Some b.payload
+  waits_now = ap (λ (x : Bool). if x then Some b.payload else None) (eq-eqb seat.slot seat.slot refl)
 
-  admitting_good : (room : Bool) → has_room (machine_at p app slot) ≡ room → (machine_at p app slot).state ≡ Open → AreGood Is m ordinals (with_sent app slot b.payload books) (admitting_by room p app slot b time)
+  admitting_good : (room : Bool) → has_room (machine_at p seat) ≡ room → (machine_at p seat).state ≡ Open → AreGood Is m ordinals (with_sent seat b.payload books) (admitting_by room p seat b time)
   admitting_good true room opened =
-      let x = view p books app slot in
+      let x = view p books seat in
       let r = admitting (anywhere b) time x.machine in
       good_of
-      (whole (book_but (machine_but (look app slot here there (fine_of g)) r) sent_book)
+      (whole (book_but (machine_but (look seat here there (fine_of g)) r) sent_book)
       (use_fine {v = record x { machine = r; book = sent_book }} (λ t payload e. opened)
       (record {
         connection = on.connection;
         what = on.there;
         reliable = on.reliable;
-        counted = g.counted app slot here there;
-        ends = g.ends app slot here there;
-        over = g.over app slot here there;
-        holds = kept.admits m app slot (now_of x) (anywhere b) time opened room none_waits is_there;
+        counted = g.counted seat here there;
+        ends = g.ends seat here there;
+        over = g.over seat here there;
+        holds = kept.admits m seat (now_of x) (anywhere b) time opened room none_waits is_there;
       })))
   admitting_good false room opened =
-      let x = view p books app slot in
-      let w = waiting_on slot (Some stalled_now) in
+      let x = view p books seat in
+      let w = waiting_on seat.slot (Some stalled_now) in
       good_of
-      (whole (book_but (stalled_but (look app slot here there (fine_of g)) (Some stalled_now) (subst (IsFor slot) (sym none) tt) refl) sent_book)
+      (whole (book_but (stalled_but (look seat here there (fine_of g)) (Some stalled_now) (subst (IsFor seat.slot) (sym none) tt) refl) sent_book)
       (use_fine {v = record x { waits = w; book = sent_book }} (λ t payload e. opened)
       (record {
         connection = on.connection;
         what = on.there;
         reliable = on.reliable;
-        counted = g.counted app slot here there;
-        ends = g.ends app slot here there;
-        over = g.over app slot here there;
-        holds = subst (λ (w : Option (List ℕ)). Is m app slot (record { connection = connection_in x.what; flags = x.terms.flags; machine = x.machine; ordinal = x.terms.ordinal; waits = w; book = sent_book })) (sym waits_now) (kept.delays m app slot (now_of x) b.payload opened none_waits is_there);
+        counted = g.counted seat here there;
+        ends = g.ends seat here there;
+        over = g.over seat here there;
+        holds = subst (λ (w : Option (List ℕ)). Is m seat (record { connection = connection_in x.what; flags = x.terms.flags; machine = x.machine; ordinal = x.terms.ordinal; waits = w; book = sent_book })) (sym waits_now) (kept.delays m seat (now_of x) b.payload opened none_waits is_there);
       })))
 
   abbrev Sends : State → Type 0
-  Sends s = ((submitting_in s p app slot b time).events ≡ event.Sent slot (terms_at p app slot).ordinal ∷ []) × AreGood Is m ordinals (with_sent app slot b.payload books) (submitting_in s p app slot b time).ports
+  Sends s = ((submitting_in s p seat b time).events ≡ event.Sent seat.slot (terms_at p seat).ordinal ∷ []) × AreGood Is m ordinals (with_sent seat b.payload books) (submitting_in s p seat b time).ports
 
   abbrev Discards : State → Type 0
-  Discards s = ((submitting_in s p app slot b time).events ≡ event.Discarded why.NoConn ∷ []) × AreGood Is m ordinals books (submitting_in s p app slot b time).ports
+  Discards s = ((submitting_in s p seat b time).events ≡ event.Discarded why.NoConn ∷ []) × AreGood Is m ordinals books (submitting_in s p seat b time).ports
 
   discards : (s : State) → s ≢ Open → Discards s
   discards Open other = absurd (other refl)
@@ -94,9 +95,10 @@ module _ {o : Origin} {C : Coming} {Is : Numbering → ℕ → ℕ → Now → T
   discards CloseWait other = (refl, g)
   discards Closed other = (refl, g)
 
-  pub submitted_submits : Submits Is m ordinals books p app slot b (submitting p app slot b time)
+  pub submitted_submits : Submits Is m ordinals books p seat b (submitting p seat b time)
   submitted_submits = record {
-    same = submitting_apps (machine_at p app slot).state p app slot b time;
-    sent = λ e. subst Sends (sym e) (refl, admitting_good (has_room (machine_at p app slot)) refl e);
-    not_sent = λ e. discards (machine_at p app slot).state e;
+    same = submitting_apps (machine_at p seat).state p seat b time;
+    sent = λ e. subst Sends (sym e) (refl, admitting_good (has_room (machine_at p seat)) refl e);
+    not_sent = λ e. discards (machine_at p seat).state e;
   }
+

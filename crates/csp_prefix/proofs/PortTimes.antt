@@ -2,10 +2,12 @@
 use Rattle.std.specs.Prelude.{◌==◌, Bool, true, false, Some, if◌then◌else◌}
 use Rattle.std.specs.List.{AllByRecursion, range_with_len}
 use Rattle.std.proofs.Common.{◌≡◌, ◌⊎◌, inl, inr, ℕ, zero, suc, ◌+◌, ◌*◌, ◌/◌, ◌%◌, ◌<◌, List, [], ◌∷◌, arith, refl, sym, subst}
+use Rattle.csp_base.specs.declared.seat.Seat.{Seat}
 use Rattle.csp_base.specs.declared.limits.TheConstants.{SLOTS}
+use Rattle.csp_conn.specs.PlainConns.{seat_of}
 use Rattle.csp_ports.specs.PlainPorts.{PlainPorts, has_machine, machine_at}
 use Rattle.csp_ports.specs.Steps.{dropped, dropped_of, timed, timed_at, timed_in, went}
-use Rattle.csp_ports.specs.declared.origin.Origin.{Origin}
+use Rattle.csp_ports.specs.declared.flows.OwnFlows.{OwnFlows}
 use Rattle.csp_rdp.specs.Holding.{rested}
 use Rattle.csp_rdp.specs.Jobs.{ticked, timed_out}
 use Rattle.csp_rdp.specs.Machine.{PlainRdp, broken, idle}
@@ -65,30 +67,30 @@ idle_ticks time = go (has_passed (Some 0) idle.options.conn_timeout time)
     go true = refl
     go false = refl
 
-module _ {o : Origin} {C : Coming} {Is : Numbering → ℕ → ℕ → Now → Type 0} (kept : IsKept o C Is)
-    {m : Numbering} {ordinals : Ordinals} {books : Books} {p : PlainPorts} (time app slot : ℕ) (here : app < p.conns.apps) (there : slot < SLOTS) (h : AreFine Is Never m ordinals books p) where
+module _ {o : OwnFlows} {C : Coming} {Is : Numbering → Seat → Now → Type 0} (kept : IsKept o C Is)
+    {m : Numbering} {ordinals : Ordinals} {books : Books} {p : PlainPorts} (time : ℕ) (seat : Seat) (here : seat.app < p.conns.apps) (there : seat.slot < SLOTS) (h : AreFine Is Never m ordinals books p) where
   -- what comes of the step of its machine
   abbrev Ticked : Type 0
-  Ticked = let r = machine_at p app slot in Leaves Is Never m ordinals books p.conns.apps (went r.state machine_why.Timeout app slot (ticked time r) p)
+  Ticked = let r = machine_at p seat in Leaves Is Never m ordinals books p.conns.apps (went r.state machine_why.Timeout seat (ticked time r) p)
 
-  idle_timed : machine_at p app slot ≡ idle → Ticked
+  idle_timed : machine_at p seat ≡ idle → Ticked
   idle_timed e =
-      let x = view p books app slot in
-      let f = h.slots app slot here there in
-      subst (λ (r : PlainRdp). Leaves Is Never m ordinals books p.conns.apps (went r.state machine_why.Timeout app slot (ticked time r) p)) (sym e)
-      (subst (λ (r : PlainRdp). Leaves Is Never m ordinals books p.conns.apps (went idle.state machine_why.Timeout app slot r p)) (sym (idle_ticks time))
+      let x = view p books seat in
+      let f = h.slots seat here there in
+      subst (λ (r : PlainRdp). Leaves Is Never m ordinals books p.conns.apps (went r.state machine_why.Timeout seat (ticked time r) p)) (sym e)
+      (subst (λ (r : PlainRdp). Leaves Is Never m ordinals books p.conns.apps (went idle.state machine_why.Timeout seat r p)) (sym (idle_ticks time))
       (record {
         same = refl;
         new = tt;
         fine =
-            whole (machine_but (look app slot here there h) (rested idle))
-            (subst (λ (r : PlainRdp). IsFine Is Never m (ordinals app slot) app slot (record x { machine = r })) e f);
+            whole (machine_but (look seat here there h) (rested idle))
+            (subst (λ (r : PlainRdp). IsFine Is Never m (ordinals seat) seat (record x { machine = r })) e f);
       }))
 
-  ticked_edge : IsReliable Is m app slot (view p books app slot) → IsEdge Is m (ordinals app slot) app slot (machine_at p app slot).state (ticked time (machine_at p app slot)) (view p books app slot)
+  ticked_edge : IsReliable Is m seat (view p books seat) → IsEdge Is m (ordinals seat) seat (machine_at p seat).state (ticked time (machine_at p seat)) (view p books seat)
   ticked_edge k =
-      let x = view p books app slot in
-      let f = h.slots app slot here there in
+      let x = view p books seat in
+      let f = h.slots seat here there in
       let t = ticks time x.machine in
       record {
         connection = k.connection;
@@ -98,19 +100,19 @@ module _ {o : Origin} {C : Coming} {Is : Numbering → ℕ → ℕ → Now → T
         ends = f.ends;
         over = f.over;
         stays = t.1;
-        early = kept.early m app slot (now_of x) k.holds;
+        early = kept.early m seat (now_of x) k.holds;
         opens = λ s. absurd (t.0 s);
-        rests = λ _. kept.rests m app slot (with_other (ticked time x.machine) (now_of x)) (kept.ticks m app slot (now_of x) time k.holds);
+        rests = λ _. kept.rests m seat (with_other (ticked time x.machine) (now_of x)) (kept.ticks m seat (now_of x) time k.holds);
       }
 
-  timed_leaves : Leaves Is Never m ordinals books p.conns.apps (timed_at time app slot p)
+  timed_leaves : Leaves Is Never m ordinals books p.conns.apps (timed_at time seat p)
   timed_leaves =
-      let r = machine_at p app slot in
-      where_leaves (has_machine p app slot) (went r.state machine_why.Timeout app slot (ticked time r)) (go (either Is m app slot (view p books app slot) (h.slots app slot here there).holds)) (record { same = refl; new = tt; fine = h })
+      let r = machine_at p seat in
+      where_leaves (has_machine p seat) (went r.state machine_why.Timeout seat (ticked time r)) (go (either Is m seat (view p books seat) (h.slots seat here there).holds)) (record { same = refl; new = tt; fine = h })
     where
-      go : IsResting (view p books app slot) ⊎ IsReliable Is m app slot (view p books app slot) → Ticked
+      go : IsResting (view p books seat) ⊎ IsReliable Is m seat (view p books seat) → Ticked
       go (inl r) = idle_timed r.machine
-      go (inr k) = went_leaves kept (look app slot here there h) (machine_at p app slot).state machine_why.Timeout (ticked time (machine_at p app slot)) (λ n. n) (ticked_edge k)
+      go (inr k) = went_leaves kept (look seat here there h) (machine_at p seat).state machine_why.Timeout (ticked time (machine_at p seat)) (λ n. n) (ticked_edge k)
 
 -- ---- all timers
 
@@ -121,28 +123,28 @@ range_below : (a n most : ℕ) → a + n ≡ most → AllByRecursion (λ k. k < 
 range_below a zero most e = tt
 range_below a (suc n) most e = (omega (arith, e), range_below (a + 1) n most (omega (arith, e)))
 
-looser : {Is : Numbering → ℕ → ℕ → Now → Type 0} {Loose Tight : ℕ → Type 0} {m : Numbering} {ordinals : Ordinals} {books : Books} {p : PlainPorts} → ((a : ℕ) → a < p.conns.apps → Tight a → Loose a) → AreFine Is Loose m ordinals books p → AreFine Is Tight m ordinals books p
+looser : {Is : Numbering → Seat → Now → Type 0} {Loose Tight : ℕ → Type 0} {m : Numbering} {ordinals : Ordinals} {books : Books} {p : PlainPorts} → ((a : ℕ) → a < p.conns.apps → Tight a → Loose a) → AreFine Is Loose m ordinals books p → AreFine Is Tight m ordinals books p
 looser wider h = record {
   shape = h.shape;
-  slots = λ a s k l. let f = h.slots a s k l in record { counted = f.counted; ends = f.ends; over = f.over; waits = λ t. f.waits (wider a k t); holds = f.holds };
+  slots = λ a k l. let f = h.slots a k l in record { counted = f.counted; ends = f.ends; over = f.over; waits = λ t. f.waits (wider a.app k t); holds = f.holds };
 }
 
 -- the applications before this one
 abbrev Before : ℕ → ℕ → Type 0
 Before n k = k < n
 
-module _ {o : Origin} {C : Coming} {Is : Numbering → ℕ → ℕ → Now → Type 0} (kept : IsKept o C Is) {m : Numbering} {ordinals : Ordinals} (time apps : ℕ) where
-  timed_one : {books : Books} {p : PlainPorts} (k : ℕ) → k < apps * 4 → p.conns.apps ≡ apps → AreFine Is Never m ordinals books p → Leaves Is Never m ordinals books apps (timed_at time (k / SLOTS) (k % SLOTS) p)
+module _ {o : OwnFlows} {C : Coming} {Is : Numbering → Seat → Now → Type 0} (kept : IsKept o C Is) {m : Numbering} {ordinals : Ordinals} (time apps : ℕ) where
+  timed_one : {books : Books} {p : PlainPorts} (k : ℕ) → k < apps * 4 → p.conns.apps ≡ apps → AreFine Is Never m ordinals books p → Leaves Is Never m ordinals books apps (timed_at time (seat_of k) p)
   timed_one {books} {p} k below same h =
       let d = divides k apps below in
-      subst (λ (n : ℕ). Leaves Is Never m ordinals books n (timed_at time (k / SLOTS) (k % SLOTS) p)) same
-      (timed_leaves kept time (k / SLOTS) (k % SLOTS) (subst (λ (n : ℕ). k / SLOTS < n) (sym same) d.0) d.1 h)
+      subst (λ (n : ℕ). Leaves Is Never m ordinals books n (timed_at time (seat_of k) p)) same
+      (timed_leaves kept time (seat_of k) (subst (λ (n : ℕ). k / SLOTS < n) (sym same) d.0) d.1 h)
 
   timed_all : (ks : List ℕ) {books : Books} {p : PlainPorts} → AllByRecursion (λ k. k < apps * 4) ks → p.conns.apps ≡ apps → AreFine Is Never m ordinals books p → Leaves Is Never m ordinals books apps (timed_in time ks p)
   timed_all [] below same h = record { same = same; new = tt; fine = h }
   timed_all (k ∷ ks) {books} {p} below same h =
-      let first : Leaves Is Never m ordinals books apps (timed_at time (k / SLOTS) (k % SLOTS) p) = timed_one k below.0 same h in
-      then_leaves (timed_at time (k / SLOTS) (k % SLOTS) p) (timed_in time ks) first (timed_all ks below.1 first.same first.fine)
+      let first : Leaves Is Never m ordinals books apps (timed_at time (seat_of k) p) = timed_one k below.0 same h in
+      then_leaves (timed_at time (seat_of k) p) (timed_in time ks) first (timed_all ks below.1 first.same first.fine)
 
   dropped_one : {books : Books} {p : PlainPorts} (a : ℕ) → a < apps → p.conns.apps ≡ apps → AreFine Is (Before a) m ordinals books p → Leaves Is (Before (a + 1)) m ordinals books apps (dropped a p)
   dropped_one {books} {p} a below same h =
@@ -158,7 +160,7 @@ module _ {o : Origin} {C : Coming} {Is : Numbering → ℕ → ℕ → Now → T
       let first : Leaves Is (Before (a + 1)) m ordinals books apps (dropped a p) = dropped_one a (omega (arith, e)) same h in
       then_leaves (dropped a p) (dropped_of (range_with_len (a + 1) n)) first (dropped_all n (a + 1) (omega (arith, e)) first.same first.fine)
 
-module _ {o : Origin} {C : Coming} {Is : Numbering → ℕ → ℕ → Now → Type 0} (kept : IsKept o C Is) {m : Numbering} {ordinals : Ordinals} {books : Books} {p : PlainPorts} (g : AreGood Is m ordinals books p) (time : ℕ) where
+module _ {o : OwnFlows} {C : Coming} {Is : Numbering → Seat → Now → Type 0} (kept : IsKept o C Is) {m : Numbering} {ordinals : Ordinals} {books : Books} {p : PlainPorts} (g : AreGood Is m ordinals books p) (time : ℕ) where
   all_timed : Leaves Is Never m ordinals books p.conns.apps (timed_in time (range_with_len 0 (p.conns.apps * SLOTS)) p)
   all_timed = timed_all kept time p.conns.apps (range_with_len 0 (p.conns.apps * SLOTS)) (range_below 0 (p.conns.apps * 4) (p.conns.apps * 4) (omega arith)) refl (loosened (fine_of g))
 
@@ -175,3 +177,4 @@ module _ {o : Origin} {C : Coming} {Is : Numbering → ℕ → ℕ → Now → T
         new = k.new;
         good = good_of (looser (λ a l t. subst (λ (n : ℕ). a < n) k.same l) k.fine);
       }
+

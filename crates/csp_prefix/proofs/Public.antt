@@ -39,7 +39,7 @@ pub use Rattle.csp_prefix.proofs.PortFacts.{used}
 -- every step of the ports keeps what is known of each connection
 pub use Rattle.csp_prefix.proofs.PortKept.{ports_kept}
 -- the log of a router, entry by entry: what it tells of the connections so far, and the books that go with it
-pub use Rattle.csp_prefix.proofs.RouterBooks.{IsAmong, IsTold, Past, Tells, all_at, among_more, no_past, opening_on, past_after, with_openings}
+pub use Rattle.csp_prefix.proofs.RouterBooks.{IsAmong, IsTold, Past, Tells, all_at, among_more, ends_of, no_past, opening_on, past_after, with_openings}
 -- what is put into the bytes of a packet is what is read there
 pub use Rattle.csp_prefix.proofs.RouterBytes.{checked_back, checked_flag, parted_back, unwrapped_is}
 -- where a router hears genuine packets alone, of which none was stale, it delivers beginnings of what its connections' peers sent

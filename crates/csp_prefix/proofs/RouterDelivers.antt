@@ -20,7 +20,7 @@ use Rattle.csp_rdp_header.specs.declared.head.RdpHead.{RdpHead}
 use Rattle.csp_record.specs.Stale.{is_far, is_stale, is_stale_at, names}
 use Rattle.csp_route.specs.Routes.{Routes}
 use Rattle.csp_stack.specs.Readings.{is_checked}
-use Rattle.csp_stack.specs.Router.{Facts, origin_of}
+use Rattle.csp_stack.specs.Router.{Facts, flows_of}
 use Rattle.csp_prefix.specs.Flows.{Flows, IsFilledFor, IsGenuine, IsTrueOf}
 use Rattle.csp_prefix.specs.Machines.{IsReceiver, IsToldSo, Receives, ReceivesIn, true_packets}
 use Rattle.csp_prefix.specs.Ports.{ArePortsKept}
@@ -89,17 +89,17 @@ fed_tag (Some t) flow cur una e =
     let two : t.nth ≡ flow.1 = eqb-true t.nth flow.1 named.1 in
     (t, refl, λ i. (one i, two i), inner.1)
 
-receiver_is_aim : (f : Facts) (es : List Entry) (flows : Flows) → ArePortsKept (origin_of f) (true_packets flows) (IsReceiver flows) → Receives (IsReceiver flows) flows → IsAim (receiver_aim flows) f (past es)
+receiver_is_aim : (f : Facts) (es : List Entry) (flows : Flows) → ArePortsKept (flows_of f) (true_packets flows) (IsReceiver flows) → Receives (IsReceiver flows) flows → IsAim (receiver_aim flows) f (past es)
 receiver_is_aim f es flows ports receives = record {
   ports = ports;
-  ended = λ m app slot n how is e nth flow q p. let known : n.book.opened ≡ Some (Some nth, Some flow) = e ∙ ap (λ x. Some (x, how.1)) q ∙ ap (λ y. Some (Some nth, y)) p in receives m app slot n nth flow is known;
-  plain = λ m app slot ordinal down nth flow e p. absurd cc;
+  ended = λ m seat n how is e nth flow q p. let known : n.book.opened ≡ Some (Some nth, Some flow) = e ∙ ap (λ x. Some (x, how.1)) q ∙ ap (λ y. Some (Some nth, y)) p in receives m seat n nth flow is known;
+  plain = λ m seat ordinal down nth flow e p. absurd cc;
   grows = λ m m' app x down on over. over;
-  never_plain = λ m app slot n is e. receiver_not n.machine.state flows n is e;
+  never_plain = λ m seat n is e. receiver_not n.machine.state flows n is e;
   unmarked = λ mark b e none comes. tt;
   unreliable = λ b none plain. tt;
   wishes = λ p r comes reliable own chosen. tt;
-  makes = λ h m books p app slot time j b c part tells o there known found e. tt;
+  makes = λ h m books p seat time j b c part tells o there known found e. tt;
   feeds = λ b payload r read hears known fresh. record {
     genuine = λ t e. read_true flows b payload read t (hears t e) known.is_unwrapped known.is_parted;
     peer = λ flow e. fed_tag b.trace.tag flow r.recv.cur (una_of r) (subst (λ p. is_stale_at p b.trace.tag r.recv.cur (una_of r) ≡ false) e fresh);
@@ -116,9 +116,10 @@ pub none_stale : (es : List Entry) → HasNoStale es → AllByRecursion (λ e. A
 none_stale [] all = tt
 none_stale (e ∷ es) all = let parts = first_all (λ v. is_stale v ≡ false) e.events.items (all_events es) all in (parts.0, none_stale es parts.1)
 
-pub delivers_prefix : (f : Facts) (routes : Routes) (es : List Entry) (flows : Flows) → ArePortsKept (origin_of f) (true_packets flows) (IsReceiver flows) → Receives (IsReceiver flows) flows → IsRouterLog f routes es → HearsGenuine flows es → HasNoStale es
+pub delivers_prefix : (f : Facts) (routes : Routes) (es : List Entry) (flows : Flows) → ArePortsKept (flows_of f) (true_packets flows) (IsReceiver flows) → Receives (IsReceiver flows) flows → IsRouterLog f routes es → HearsGenuine flows es → HasNoStale es
     → DeliversPrefix flows es
 delivers_prefix f routes es flows ports receives log hears none app nth x peer is e =
     let k = receiver_is_aim f es flows ports receives in
     let r = run_known (receiver_aim flows) f routes es k log (λ at mark b q. all_at (IsGenuineItem flows) (gets queue.Inbox es) at (item.Packet mark b) hears q) (each_comes (receiver_aim flows) (λ i. tt) es) (none_stale es none) (found_any f (opening_state f.apps routes) es) in
     opening_known (receiver_aim flows) f es k r app nth x is nth peer is.numbered e
+

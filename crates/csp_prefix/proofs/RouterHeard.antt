@@ -6,10 +6,12 @@ use Rattle.std.specs.Option.{option_map}
 use Rattle.std.proofs.lemmas.List.{get_or-drop, get_or-take, length-take}
 use Rattle.std.proofs.lemmas.List.Quantifiers.{position-Some}
 use Rattle.std.proofs.lemmas.Nat.{and_assoc}
+use Rattle.csp_base.specs.Seat.{seat}
+use Rattle.csp_base.specs.declared.seat.Seat.{Seat}
 use Rattle.csp_base.specs.declared.traces.Tag.{Tag}
 use Rattle.csp_buffer.specs.Content.{Content}
-use Rattle.csp_conn.specs.Opening.{first_free, found}
-use Rattle.csp_conn.specs.PlainConns.{PlainConns, place_of, slot_at, slots_of}
+use Rattle.csp_conn.specs.Opening.{first_free, found, free_seat}
+use Rattle.csp_conn.specs.PlainConns.{IsThere, PlainConns, place_of, seat_of, slot_at, slots_of}
 use Rattle.csp_conn.specs.Slots.{is_between, is_free}
 use Rattle.csp_base.specs.declared.limits.TheConstants.{SLOTS}
 use Rattle.csp_conn.specs.declared.slot.Connection.{Connection}
@@ -24,7 +26,7 @@ use Rattle.csp_log.specs.declared.event.Discard.TheVariants as why
 use Rattle.csp_log.specs.declared.event.Event.{Event}
 use Rattle.csp_log.specs.declared.event.Event.TheVariants as event
 use Rattle.csp_ports.specs.Asking.{is_reliable}
-use Rattle.csp_ports.specs.Packets.{handing, invited}
+use Rattle.csp_ports.specs.Packets.{accepted, handing, invited}
 use Rattle.csp_ports.specs.PlainPorts.{machine_at, terms_at}
 use Rattle.csp_ports.specs.declared.handing.Invitation.{Invitation}
 use Rattle.csp_rdp_header.specs.Head.{has_flag, parted}
@@ -46,35 +48,36 @@ use Rattle.csp_stack.specs.Counting.{counting}
 use Rattle.csp_stack.proofs.Public.{by_rest, heard_here}
 use Rattle.csp_stack.specs.Comes.{heard_at_port, heard_at_socket, heard_elsewhere}
 use Rattle.csp_stack.specs.Readings.{is_checked, is_here, is_secured}
-use Rattle.csp_stack.specs.Router.{Facts, Leaving, State, origin_of}
-use Rattle.csp_stack.specs.Rules.{◌>>=◌, Arrival, Decided, Left, accepting, answer_flags, arrival, asked_by, asked_with, by_answer, by_connection, by_row, by_service, by_socket, connection_of, differs, forwarded, heard, invitation_in, inviting, is_lacking, is_mixed, opening, sent, sent_by, slot_of, to_connection, to_itself, to_machine, to_slot, with_payload}
+use Rattle.csp_stack.specs.Router.{Facts, Leaving, State, flows_of, router}
+use Rattle.csp_stack.specs.Rules.{◌>>=◌, Arrival, Decided, Left, accepting, answer_flags, arrival, asked_by, asked_with, by_answer, by_connection, by_row, by_service, by_socket, connection_of, differs, forwarded, heard, invitation_in, inviting, is_lacking, is_mixed, opening, sent, seat_for, sent_by, to_connection, to_itself, to_machine, to_slot, with_payload}
 use Rattle.csp_stack.specs.Sending.{protected}
 use Rattle.csp_stack.specs.Serving.{facts_of, reply_header, reply_in, with_facts}
 use Rattle.csp_stack.specs.Told.{Told, discarded, leaving, spent, unchanged}
 use Rattle.csp_prefix.specs.Ports.{IsInUse, IsSlot, connection_in, now_at, with_opened}
 use Rattle.csp_prefix.specs.Slots.{Book}
-use Rattle.csp_prefix.proofs.RouterBooks.{Past, book_at, no_openings, no_openings_of, tells_noted, with_openings}
+use Rattle.csp_prefix.proofs.PortViews.{book_same}
+use Rattle.csp_prefix.proofs.RouterBooks.{Past, no_openings, no_openings_of, tells_noted, with_openings}
 use Rattle.csp_prefix.proofs.RouterStanding.{Aim, IsAim, IsOut, IsRead, Stands, stands_comes, unwrapped}
 use Rattle.csp_prefix.proofs.RouterBytes.{reliable_flag}
 use Rattle.csp_prefix.proofs.RouterMute.{IsMute, answered_mute, order_opens}
 use Rattle.std.specs.Int.Bits.{and_zero_r}
 
 -- ---- slots that were found
-pub record IsFound (c : PlainConns) (x : Connection) (app slot : ℕ) : Type 0 where
-  pub app_there : app < c.apps
-  pub slot_there : slot < SLOTS
-  pub is_open : slot_at c app slot ≡ has.Open x
+pub record IsFound (c : PlainConns) (x : Connection) (seat : Seat) : Type 0 where
+  pub app_there : seat.app < c.apps
+  pub slot_there : seat.slot < SLOTS
+  pub is_open : slot_at c seat ≡ has.Open x
 
-pub found_there : (c : PlainConns) (x : Connection) (at : ℕ × ℕ) → length c.slots ≡ c.apps * SLOTS → found c x ≡ Some at → IsFound c x at.0 at.1
-found_there c x at all e = by_place (position (is_between x) c.slots) refl e
+pub found_there : (c : PlainConns) (x : Connection) (seat : Seat) → length c.slots ≡ c.apps * SLOTS → found c x ≡ Some seat → IsFound c x seat
+found_there c x seat all e = by_place (position (is_between x) c.slots) refl e
   where
-    by_place : (o : Option ℕ) → position (is_between x) c.slots ≡ o → option_map (λ place. (place / SLOTS, place % SLOTS)) o ≡ Some at → IsFound c x at.0 at.1
+    by_place : (o : Option ℕ) → position (is_between x) c.slots ≡ o → option_map seat_of o ≡ Some seat → IsFound c x seat
     by_place None q e = absurd cc
     by_place (Some place) q e =
-        let same : (place / SLOTS, place % SLOTS) ≡ at = cc in
+        let same : seat_of place ≡ seat = cc in
         let seen = position-Some (is_between x) c.slots place has.Free q in
         let whole : place / 4 * 4 + place % 4 ≡ place = omega arith in
-        subst (λ (a : ℕ × ℕ). IsFound c x a.0 a.1) same (record {
+        subst (IsFound c x) same (record {
           app_there = omega (arith, seen.0, all);
           slot_there = omega arith;
           is_open = rw whole (is_between-open x _ seen.1);
@@ -85,16 +88,27 @@ is_free-free has.Free e = refl
 is_free-free has.Held e = absurd cc
 is_free-free (has.Open c) e = absurd cc
 
-pub free_there : (c : PlainConns) (app slot : ℕ) → first_free c app ≡ Some slot → (slot < SLOTS) × (slot_at c app slot ≡ has.Free)
-free_there c app slot e =
+free_slot_there : (c : PlainConns) (app slot : ℕ) → first_free c app ≡ Some slot → (slot < SLOTS) × (slot_at c (seat app slot) ≡ has.Free)
+free_slot_there c app slot e =
+    let first : ℕ = place_of (seat app 0) in
     let seen = position-Some is_free (slots_of c app) slot has.Free e in
-    let width : place_of app 0 + SLOTS - place_of app 0 ≡ 4 = omega arith in
-    let cut : slots_of c app ≡ take 4 (drop (place_of app 0) c.slots) = ap (λ n. take n (drop (place_of app 0) c.slots)) width in
-    let few : slot < 4 = omega (arith, seen.0, ap length cut, length-take 4 (drop (place_of app 0) c.slots)) in
-    let at : place_of app 0 + slot ≡ place_of app slot = omega arith in
-    let here : get_or (slots_of c app) slot has.Free ≡ slot_at c app slot =
-    ap (λ xs. get_or xs slot has.Free) cut ∙ get_or-take 4 (drop (place_of app 0) c.slots) slot has.Free few ∙ get_or-drop (place_of app 0) c.slots slot has.Free ∙ ap (λ n. get_or c.slots n has.Free) at in
+    let width : first + SLOTS - first ≡ 4 = omega arith in
+    let cut : slots_of c app ≡ take 4 (drop first c.slots) = ap (λ n. take n (drop first c.slots)) width in
+    let few : slot < 4 = omega (arith, seen.0, ap length cut, length-take 4 (drop first c.slots)) in
+    let at : first + slot ≡ place_of (seat app slot) = omega arith in
+    let here : get_or (slots_of c app) slot has.Free ≡ slot_at c (seat app slot) =
+    ap (λ xs. get_or xs slot has.Free) cut ∙ get_or-take 4 (drop first c.slots) slot has.Free few ∙ get_or-drop first c.slots slot has.Free ∙ ap (λ n. get_or c.slots n has.Free) at in
     (few, sym here ∙ is_free-free _ seen.1)
+
+pub free_there : (c : PlainConns) (app : ℕ) (free : Seat) → app < c.apps → free_seat c app ≡ Some free → IsThere c free × (slot_at c free ≡ has.Free)
+free_there c app free few e = by_slot (first_free c app) refl e
+  where
+    by_slot : (o : Option ℕ) → first_free c app ≡ o → option_map (seat app) o ≡ Some free → IsThere c free × (slot_at c free ≡ has.Free)
+    by_slot None q e = absurd cc
+    by_slot (Some slot) q e =
+        let same : seat app slot ≡ free = cc in
+        let there = free_slot_there c app slot q in
+        subst (λ s. IsThere c s × (slot_at c s ≡ has.Free)) same (record { of_node = few; of_app = there.0 }, there.1)
 
 -- ---- the flags of an answer
 answer_reliable : (h : Header) → is_reliable (answer_flags h) ≡ is_reliable h.flags.0
@@ -165,66 +179,67 @@ module _ (g : Aim) (f : Facts) (whole : Past) (k : IsAim g f whole) where
   abbrev after_checksum : ℕ → Content → List ℕ → Arrival
   after_checksum mark b bytes = record { mark = mark; head = header_at b.header; buffer = record b { payload = bytes } }
 
-  plain_opened : (h : Past) (s : State) (w : Stands g f h s.ports s.out) (c : Connection) (app slot : ℕ) → IsFound s.ports.conns c app slot → is_reliable (terms_at s.ports app slot).flags ≡ false → (w.books app slot).opened ≡ Some (None, None)
-  plain_opened h s w c app slot x plain =
-      let one = w.good.slots app slot x.app_there x.slot_there in
-      let used = subst (λ o. IsSlot g.is o (terms_at s.ports app slot) w.numbering app slot (now_at s.ports w.books app slot)) x.is_open one in
-      (subst (λ r. IsInUse g.is r w.numbering app slot (now_at s.ports w.books app slot)) plain used).opened
+  plain_opened : (h : Past) (s : State) (w : Stands g f h s.ports s.out) (c : Connection) (seat : Seat) → IsFound s.ports.conns c seat → is_reliable (terms_at s.ports seat).flags ≡ false → (w.books seat).opened ≡ Some (None, None)
+  plain_opened h s w c seat x plain =
+      let one = w.good.slots seat x.app_there x.slot_there in
+      let used = subst (λ o. IsSlot g.is o (terms_at s.ports seat) w.numbering seat (now_at s.ports w.books seat)) x.is_open one in
+      (subst (λ r. IsInUse g.is r w.numbering seat (now_at s.ports w.books seat)) plain used).opened
 
-  to_machine_so : (o : Option (List ℕ × RdpHead)) (h : Past) (s : State) (app slot time mark : ℕ) (b : Content) (bytes : List ℕ) → parted bytes ≡ o → g.hears b → is_here f.addr (header_at b.header) ≡ true → is_reliable (header_at b.header).flags.0 ≡ true → unwrapped (is_checked (header_at b.header)) b.payload ≡ Some bytes
-      → IsFound s.ports.conns (connection_of (header_at b.header)) app slot → is_reliable (terms_at s.ports app slot).flags ≡ true → Stands g f h s.ports s.out → Quietly h (to_machine o s app slot time (after_checksum mark b bytes))
-  to_machine_so None h s app slot time mark b bytes e hears here rdp un x reliable w = stands_discarded h s why.Malformed (record b { payload = bytes }) w
-  to_machine_so (Some read) h s app slot time mark b bytes e hears here rdp un x reliable w = λ fresh.
-      stands_comes g f h s.ports s.out w w.numbering (handing s.ports app slot read.1 (record b { payload = read.0 }) time) (record { more = omega arith; same = λ n lt. refl }) k.grows
-      (k.ports.hands w.numbering h.ends w.books s.ports app slot read.1 (record b { payload = read.0 }) time x.app_there x.slot_there
+  to_machine_so : (o : Option (List ℕ × RdpHead)) (h : Past) (s : State) (seat : Seat) (time mark : ℕ) (b : Content) (bytes : List ℕ) → parted bytes ≡ o → g.hears b → is_here f.addr (header_at b.header) ≡ true → is_reliable (header_at b.header).flags.0 ≡ true → unwrapped (is_checked (header_at b.header)) b.payload ≡ Some bytes
+      → IsFound s.ports.conns (connection_of (header_at b.header)) seat → is_reliable (terms_at s.ports seat).flags ≡ true → Stands g f h s.ports s.out → Quietly h (to_machine o s seat time (after_checksum mark b bytes))
+  to_machine_so None h s seat time mark b bytes e hears here rdp un x reliable w = stands_discarded h s why.Malformed (record b { payload = bytes }) w
+  to_machine_so (Some read) h s seat time mark b bytes e hears here rdp un x reliable w = λ fresh.
+      stands_comes g f h s.ports s.out w w.numbering (handing s.ports seat read.1 (record b { payload = read.0 }) time) (record { more = omega arith; same = λ n lt. refl }) k.grows
+      (k.ports.hands w.numbering h.ends w.books s.ports seat read.1 (record b { payload = read.0 }) time x.app_there x.slot_there
       (record { connection = connection_of (header_at b.header); there = x.is_open; reliable = reliable })
-      (subst (λ o. g.coming.fed (connection_in o) (machine_at s.ports app slot) read.1 b.trace.tag read.0) (sym x.is_open)
-      (k.feeds b bytes (machine_at s.ports app slot) read hears (record { here = here; reliable = rdp; is_unwrapped = un; is_parted = e }) fresh.0)) w.good)
+      (subst (λ o. g.coming.fed (connection_in o) (machine_at s.ports seat) read.1 b.trace.tag read.0) (sym x.is_open)
+      (k.feeds b bytes (machine_at s.ports seat) read hears (record { here = here; reliable = rdp; is_unwrapped = un; is_parted = e }) fresh.0)) w.good)
 
-  to_connection_so : (reliable : Bool) (h : Past) (s : State) (app slot time mark : ℕ) (b : Content) (bytes : List ℕ) → is_reliable (header_at b.header).flags.0 ≡ reliable → g.hears b → is_here f.addr (header_at b.header) ≡ true → unwrapped (is_checked (header_at b.header)) b.payload ≡ Some bytes
-      → IsFound s.ports.conns (connection_of (header_at b.header)) app slot → differs reliable (is_reliable (terms_at s.ports app slot).flags) ≡ false → Stands g f h s.ports s.out
-      → Quietly h (if reliable then to_machine (parted bytes) s app slot time (after_checksum mark b bytes) else leaving s (to_slot app slot (record b { payload = bytes })))
-  to_connection_so false h s app slot time mark b bytes rdp hears here un x same w =
-      stands_leaving h s (to_slot app slot (record b { payload = bytes })) w (subst (λ a. app < a) w.apps x.app_there, x.slot_there, plain_opened h s w (connection_of (header_at b.header)) app slot x same)
-  to_connection_so true h s app slot time mark b bytes rdp hears here un x same w =
-      to_machine_so (parted bytes) h s app slot time mark b bytes refl hears here rdp un x (not_false (is_reliable (terms_at s.ports app slot).flags) same) w
+  to_connection_so : (reliable : Bool) (h : Past) (s : State) (seat : Seat) (time mark : ℕ) (b : Content) (bytes : List ℕ) → is_reliable (header_at b.header).flags.0 ≡ reliable → g.hears b → is_here f.addr (header_at b.header) ≡ true → unwrapped (is_checked (header_at b.header)) b.payload ≡ Some bytes
+      → IsFound s.ports.conns (connection_of (header_at b.header)) seat → differs reliable (is_reliable (terms_at s.ports seat).flags) ≡ false → Stands g f h s.ports s.out
+      → Quietly h (if reliable then to_machine (parted bytes) s seat time (after_checksum mark b bytes) else leaving s (to_slot seat (record b { payload = bytes })))
+  to_connection_so false h s seat time mark b bytes rdp hears here un x same w =
+      stands_leaving h s (to_slot seat (record b { payload = bytes })) w (subst (λ a. seat.app < a) w.apps x.app_there, x.slot_there, plain_opened h s w (connection_of (header_at b.header)) seat x same)
+  to_connection_so true h s seat time mark b bytes rdp hears here un x same w =
+      to_machine_so (parted bytes) h s seat time mark b bytes refl hears here rdp un x (not_false (is_reliable (terms_at s.ports seat).flags) same) w
     where
       not_false : (t : Bool) → not t ≡ false → t ≡ true
       not_false true e = refl
       not_false false e = absurd cc
 
-  at_connection_so : (mixed lacking : Bool) (at : ℕ × ℕ) (h : Past) (s : State) (time mark : ℕ) (b : Content) (bytes : List ℕ) → is_mixed s at (after_checksum mark b bytes) ≡ mixed → Stands g f h s.ports s.out
-      → (is_mixed s at (after_checksum mark b bytes) ≡ false → Quietly h (to_connection s at.0 at.1 time (after_checksum mark b bytes)))
-      → Quietly h (if mixed then discarded s why.Mixed (record b { payload = bytes }) else if lacking then discarded s why.Required (record b { payload = bytes }) else to_connection s at.0 at.1 time (after_checksum mark b bytes))
+  at_connection_so : (mixed lacking : Bool) (at : Seat) (h : Past) (s : State) (time mark : ℕ) (b : Content) (bytes : List ℕ) → is_mixed s at (after_checksum mark b bytes) ≡ mixed → Stands g f h s.ports s.out
+      → (is_mixed s at (after_checksum mark b bytes) ≡ false → Quietly h (to_connection s at time (after_checksum mark b bytes)))
+      → Quietly h (if mixed then discarded s why.Mixed (record b { payload = bytes }) else if lacking then discarded s why.Required (record b { payload = bytes }) else to_connection s at time (after_checksum mark b bytes))
   at_connection_so true lacking at h s time mark b bytes e w rest = stands_discarded h s why.Mixed (record b { payload = bytes }) w
   at_connection_so false true at h s time mark b bytes e w rest = stands_discarded h s why.Required (record b { payload = bytes }) w
   at_connection_so false false at h s time mark b bytes e w rest = rest e
 
-  by_connection_so : (at : Option (ℕ × ℕ)) (h : Past) (s : State) (time mark : ℕ) (b : Content) (bytes : List ℕ) (next : Arrival → Told) → g.hears b → is_here f.addr (header_at b.header) ≡ true → unwrapped (is_checked (header_at b.header)) b.payload ≡ Some bytes
-      → slot_of s (after_checksum mark b bytes) ≡ at → Stands g f h s.ports s.out → Quietly h (next (after_checksum mark b bytes)) → Quietly h (by_connection at s time (after_checksum mark b bytes) >>= next)
+  by_connection_so : (at : Option Seat) (h : Past) (s : State) (time mark : ℕ) (b : Content) (bytes : List ℕ) (next : Arrival → Told) → g.hears b → is_here f.addr (header_at b.header) ≡ true → unwrapped (is_checked (header_at b.header)) b.payload ≡ Some bytes
+      → seat_for s (after_checksum mark b bytes) ≡ at → Stands g f h s.ports s.out → Quietly h (next (after_checksum mark b bytes)) → Quietly h (by_connection at s time (after_checksum mark b bytes) >>= next)
   by_connection_so None h s time mark b bytes next hears here un e w rest = rest
   by_connection_so (Some at) h s time mark b bytes next hears here un e w rest =
       at_connection_so (is_mixed s at (after_checksum mark b bytes)) (is_lacking s (after_checksum mark b bytes)) at h s time mark b bytes refl w λ same.
-      (to_connection_so (is_reliable (header_at b.header).flags.0) h s at.0 at.1 time mark b bytes refl hears here un (found_there s.ports.conns (connection_of (header_at b.header)) at w.good.conns e) same w)
+      (to_connection_so (is_reliable (header_at b.header).flags.0) h s at time mark b bytes refl hears here un (found_there s.ports.conns (connection_of (header_at b.header)) at w.good.conns e) same w)
 
   -- ---- 5. a packet to a bound port
-  free_blank : (h : Past) (s : State) (w : Stands g f h s.ports s.out) (app slot : ℕ) → app < s.ports.conns.apps → slot < SLOTS → slot_at s.ports.conns app slot ≡ has.Free → (w.books app slot).opened ≡ None
-  free_blank h s w app slot few low free =
-      let vacant = subst (λ o. IsSlot g.is o (terms_at s.ports app slot) w.numbering app slot (now_at s.ports w.books app slot)) free (w.good.slots app slot few low) in
+  free_blank : (h : Past) (s : State) (w : Stands g f h s.ports s.out) (seat : Seat) → seat.app < s.ports.conns.apps → seat.slot < SLOTS → slot_at s.ports.conns seat ≡ has.Free → (w.books seat).opened ≡ None
+  free_blank h s w seat few low free =
+      let vacant = subst (λ o. IsSlot g.is o (terms_at s.ports seat) w.numbering seat (now_at s.ports w.books seat)) free (w.good.slots seat few low) in
       ap (λ (b : Book). b.opened) vacant.0.book
 
-  accepting_so : (o : Option ℕ) (h : Past) (s : State) (app : ℕ) (p : Arrival) → first_free s.ports.conns app ≡ o → app < s.ports.conns.apps → is_reliable p.head.flags.0 ≡ false → Stands g f h s.ports s.out → Quietly h (accepting o s app p)
+  accepting_so : (o : Option Seat) (h : Past) (s : State) (app : ℕ) (p : Arrival) → free_seat s.ports.conns app ≡ o → app < s.ports.conns.apps → is_reliable p.head.flags.0 ≡ false → Stands g f h s.ports s.out → Quietly h (accepting o s p)
   accepting_so None h s app p e few plain w = stands_discarded h s why.NoSlot p.buffer w
-  accepting_so (Some slot) h s app p e few plain w = λ fresh.
-      let there = free_there s.ports.conns app slot e in
-      let few_f : app < f.apps = subst (λ a. app < a) w.apps few in
+  accepting_so (Some free) h s app p e few plain w = λ fresh.
+      let found = free_there s.ports.conns app free few e in
+      let there = found.0 in
+      let few_f : free.app < f.apps = subst (λ a. free.app < a) w.apps there.of_node in
       record {
         numbering = w.numbering;
-        books = with_opened app slot (None, None) w.books;
-        good = k.ports.accepts w.numbering h.ends w.books s.ports app slot (connection_of p.head) p.head.prio (answer_flags p.head) few there.0 there.1 (answer_reliable p.head ∙ plain) w.good;
-        tells = tells_noted g.over f.apps w.numbering (event.Opened app slot None None ∷ []) h w.books ((few_f, there.0, free_blank h s w app slot few there.0 there.1), tt) w.tells;
+        books = with_opened free (None, None) w.books;
+        good = k.ports.accepts w.numbering h.ends w.books s.ports free (connection_of p.head) p.head.prio (answer_flags p.head) there.of_node there.of_app found.1 (answer_reliable p.head ∙ plain) w.good;
+        tells = tells_noted g.over f.apps w.numbering (event.Opened free.app free.slot None None ∷ []) h w.books ((few_f, there.of_app, free_blank h s w free there.of_node there.of_app found.1), tt) w.tells;
         apps = w.apps;
-        out = (few_f, there.0, book_at (λ a s b. a ≡ app → s ≡ slot → b.opened ≡ Some (None, None)) app slot _ w.books app slot (λ one two. refl) (λ differ one two. absurd (differ one two)) refl refl);
+        out = (few_f, there.of_app, ap (λ (b : Book). b.opened) (book_same free _ w.books));
       }
 
   abbrev IsAsked : Header → Result Invitation Discard → Type 0
@@ -246,22 +261,23 @@ module _ (g : Aim) (f : Facts) (whole : Past) (k : IsAim g f whole) where
   invitation_so (Some read) b bytes q hears here rdp un =
       asked_by_so (has_flag read.1 SYN) (has_flag read.1 ACK || has_flag read.1 RST) b bytes read refl hears (record { here = here; reliable = rdp; is_unwrapped = un; is_parted = q })
 
-  inviting_so : (r : Result Invitation Discard) (o : Option ℕ) (h : Past) (s : State) (app time : ℕ) (p : Arrival) → IsAsked p.head r → first_free s.ports.conns app ≡ o → app < s.ports.conns.apps → is_reliable p.head.flags.0 ≡ true → Stands g f h s.ports s.out
-      → Quietly h (inviting r o f s app time p)
+  inviting_so : (r : Result Invitation Discard) (o : Option Seat) (h : Past) (s : State) (app time : ℕ) (p : Arrival) → IsAsked p.head r → free_seat s.ports.conns app ≡ o → app < s.ports.conns.apps → is_reliable p.head.flags.0 ≡ true → Stands g f h s.ports s.out
+      → Quietly h (inviting r o (router f s) time p)
   inviting_so (Err reason) o h s app time p so e few reliable w = stands_discarded h s reason p.buffer w
   inviting_so (Ok i) None h s app time p so e few reliable w = stands_discarded h s why.NoSlot p.buffer w
-  inviting_so (Ok i) (Some slot) h s app time p so e few reliable w = λ fresh.
-      let there = free_there s.ports.conns app slot e in
-      let c = invited (origin_of f) s.ports app slot (connection_of p.head) p.head.prio (answer_flags p.head) i time in
-      let done = k.ports.invites w.numbering h.ends w.books s.ports app slot (connection_of p.head) p.head.prio (answer_flags p.head) i time few there.0 there.1 (answer_reliable p.head ∙ reliable) so.0 so.1 w.good in
+  inviting_so (Ok i) (Some free) h s app time p so e few reliable w = λ fresh.
+      let found = free_there s.ports.conns app free few e in
+      let there = found.0 in
+      let c = invited (flows_of f) i free time (accepted s.ports free (connection_of p.head) p.head.prio (answer_flags p.head)) in
+      let done = k.ports.invites w.numbering h.ends w.books s.ports free (connection_of p.head) p.head.prio (answer_flags p.head) i time there.of_node there.of_app found.1 (answer_reliable p.head ∙ reliable) so.0 so.1 w.good in
       stands_comes g f h s.ports s.out w done.after c done.goes_on k.grows done.comes
 
   opening_so : (reliable : Bool) (h : Past) (s : State) (app time mark : ℕ) (b : Content) (bytes : List ℕ) → is_reliable (header_at b.header).flags.0 ≡ reliable → g.hears b → is_here f.addr (header_at b.header) ≡ true → unwrapped (is_checked (header_at b.header)) b.payload ≡ Some bytes
       → app < s.ports.conns.apps → Stands g f h s.ports s.out
-      → Quietly h (if reliable then inviting (invitation_in (parted bytes) b.trace.tag) (first_free s.ports.conns app) f s app time (after_checksum mark b bytes) else accepting (first_free s.ports.conns app) s app (after_checksum mark b bytes))
-  opening_so false h s app time mark b bytes e hears here un few w = accepting_so (first_free s.ports.conns app) h s app (after_checksum mark b bytes) refl few e w
+      → Quietly h (if reliable then inviting (invitation_in (parted bytes) b.trace.tag) (free_seat s.ports.conns app) (router f s) time (after_checksum mark b bytes) else accepting (free_seat s.ports.conns app) s (after_checksum mark b bytes))
+  opening_so false h s app time mark b bytes e hears here un few w = accepting_so (free_seat s.ports.conns app) h s app (after_checksum mark b bytes) refl few e w
   opening_so true h s app time mark b bytes e hears here un few w =
-      inviting_so (invitation_in (parted bytes) b.trace.tag) (first_free s.ports.conns app) h s app time (after_checksum mark b bytes) (invitation_so (parted bytes) b bytes refl hears here e un) refl few e w
+      inviting_so (invitation_in (parted bytes) b.trace.tag) (free_seat s.ports.conns app) h s app time (after_checksum mark b bytes) (invitation_so (parted bytes) b bytes refl hears here e un) refl few e w
 
   at_socket_so : (lacking : Bool) (h : Past) (s : State) (app time mark : ℕ) (b : Content) (bytes : List ℕ) → Stands g f h s.ports s.out → Quietly h (opening app f s time (after_checksum mark b bytes))
       → Quietly h (if lacking then discarded s why.Required (record b { payload = bytes }) else opening app f s time (after_checksum mark b bytes))
@@ -290,8 +306,9 @@ module _ (g : Aim) (f : Facts) (whole : Past) (k : IsAim g f whole) where
       for_this_node_so (is_here f.addr (header_at b.header)) (forwarded way s (arrival mark b)) h (arrival mark b) (λ p. heard_here f s time p) (forwarded_so way h s (arrival mark b) hears w) λ here.
       (by_test_so (is_secured (header_at b.header)) (discarded (counting s mark count.AuthErrors 1) why.Refused b) h (arrival mark b) (λ p. by_rest f s time p) (stands_discarded h (counting s mark count.AuthErrors 1) why.Refused b w)
       (by_checksum_so (is_checked (header_at b.header)) (payload_of b.payload) h s (arrival mark b) (λ q. heard_at_port f s time q) refl w (λ bytes un.
-      by_connection_so (slot_of s (after_checksum mark b bytes)) h s time mark b bytes (λ p. heard_at_socket f s time p) hears here un refl w
+      by_connection_so (seat_for s (after_checksum mark b bytes)) h s time mark b bytes (λ p. heard_at_socket f s time p) hears here un refl w
       (by_socket_so (owner_of s.ports.bound (header_at b.header).dport) h s time mark b bytes (λ p. heard_elsewhere f s time p) refl hears here un w
       (by_test_so (is_reliable (header_at b.header).flags.0) (discarded s why.NoSocket (record b { payload = bytes })) h (after_checksum mark b bytes) (λ p. by_service f s time p) (stands_discarded h s why.NoSocket (record b { payload = bytes }) w)
       (let o = answered (header_at b.header).dport bytes (facts_of f s) time in
       by_answer_so o.served o.reply h (with_facts s o.facts) (after_checksum mark b bytes) (answered_mute (header_at b.header).dport bytes time (facts_of f s)) w))))))
+

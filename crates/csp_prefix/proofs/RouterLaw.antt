@@ -7,11 +7,11 @@ use Rattle.csp_prefix.proofs.RouterDelivers.{delivers_prefix}
 use Rattle.csp_prefix.proofs.RouterSends.{are_numbered, are_placed, sends_genuine}
 use Rattle.csp_prefix.specs.Machines.{IsReceiver, IsSender, true_packets, whatever}
 use Rattle.csp_prefix.specs.Routers.{AreTrueRouters}
-use Rattle.csp_stack.specs.Router.{origin_of}
+use Rattle.csp_stack.specs.Router.{flows_of}
 
 pub true_routers : AreTrueRouters
 true_routers f routes es log =
-    let o = origin_of f in
+    let o = flows_of f in
     let senders = ports_kept o whatever (IsSender o) (sender-kept o) in
     record {
       placed = are_placed f routes es senders (sender-opens o) log;

@@ -1,9 +1,11 @@
 -- what the plan of a turn says of the ports
-use Rattle.std.proofs.Common.{◌≡◌, ℕ, ◌*◌, ◌/◌, ◌%◌, ◌<◌, ◌==◌, Bool, true, false, not, cond, nat_lt, Option, None, Some, List, [], ◌∷◌, refl, subst, arith, find}
+use Rattle.std.proofs.Common.{◌≡◌, ℕ, ◌*◌, ◌<◌, ◌==◌, Bool, true, false, not, cond, nat_lt, Option, None, Some, List, [], ◌∷◌, refl, subst, arith, find}
 use Rattle.std.specs.Prelude.{if◌then◌else◌, is_some}
 use Rattle.std.specs.Option.{option_map}
 use Rattle.std.proofs.lemmas.Bool.{and_parts, ltb-true}
+use Rattle.csp_base.specs.declared.seat.Seat.{Seat}
 use Rattle.csp_base.specs.declared.limits.TheConstants.{SLOTS}
+use Rattle.csp_conn.specs.PlainConns.{seat_of}
 use Rattle.csp_ports.specs.PlainPorts.{PlainPorts, machine_at, stalled_at, terms_at, waiting}
 use Rattle.csp_ports.specs.Tasks.{circle, has_task, next_task, place_with_task, task_at, task_by, task_of, task_with}
 use Rattle.csp_ports.specs.declared.task.Task.{Task}
@@ -93,18 +95,18 @@ pub delivery_there : (time : ℕ) (r : PlainRdp) → job_of time r ≡ Some job.
 delivery_there time r e = delivered_in r.state time r (not_rst r.owed.rst (job_in r.state time r) e)
 
 -- the next task is that of a slot which is there
-pub record IsTask (time : ℕ) (p : PlainPorts) (t : ℕ × ℕ × Task) : Type 0 where
-  pub app_there : t.0 < p.conns.apps
-  pub slot_there : t.1 < SLOTS
-  pub is_task : task_at time p t.0 t.1 ≡ Some t.2
+pub record IsTask (time : ℕ) (p : PlainPorts) (t : Seat × Task) : Type 0 where
+  pub app_there : t.0.app < p.conns.apps
+  pub slot_there : t.0.slot < SLOTS
+  pub is_task : task_at time p t.0 ≡ Some t.1
 
-pub task_there : (time : ℕ) (p : PlainPorts) (t : ℕ × ℕ × Task) → next_task time p ≡ Some t → IsTask time p t
+pub task_there : (time : ℕ) (p : PlainPorts) (t : Seat × Task) → next_task time p ≡ Some t → IsTask time p t
 task_there time p t e = by_place (place_with_task time p) refl e
   where
-    by_task : (k : ℕ) (o : Option Task) → k < p.conns.apps * SLOTS → task_of time p k ≡ o → option_map (λ x. (k / SLOTS, k % SLOTS, x)) o ≡ Some t → IsTask time p t
+    by_task : (k : ℕ) (o : Option Task) → k < p.conns.apps * SLOTS → task_of time p k ≡ o → option_map (λ x. (seat_of k, x)) o ≡ Some t → IsTask time p t
     by_task k None lt q e = absurd cc
     by_task k (Some x) lt q e =
-        let same : (k / SLOTS, k % SLOTS, x) ≡ t = cc in
+        let same : (seat_of k, x) ≡ t = cc in
         subst (IsTask time p) same (record { app_there = omega (arith, lt); slot_there = omega arith; is_task = q })
 
     by_place : (o : Option ℕ) → place_with_task time p ≡ o → task_with time p o ≡ Some t → IsTask time p t
@@ -114,8 +116,9 @@ task_there time p t e = by_place (place_with_task time p) refl e
         let parts = and_parts (nat_lt k (p.conns.apps * SLOTS)) (is_some (task_of time p k)) passes in
         by_task k (task_of time p k) (ltb-true k (p.conns.apps * SLOTS) parts.0) refl e
 
-pub make_job : (time : ℕ) (p : PlainPorts) (app slot : ℕ) (j : Job) → task_at time p app slot ≡ Some (task.Make j) → job_of time (machine_at p app slot) ≡ Some j
-make_job time p app slot j e = made_job (terms_at p app slot).is_down (job_of time (machine_at p app slot)) j e
+pub make_job : (time : ℕ) (p : PlainPorts) (seat : Seat) (j : Job) → task_at time p seat ≡ Some (task.Make j) → job_of time (machine_at p seat) ≡ Some j
+make_job time p seat j e = made_job (terms_at p seat).is_down (job_of time (machine_at p seat)) j e
 
-pub deliver_job : (time : ℕ) (p : PlainPorts) (app slot : ℕ) → task_at time p app slot ≡ Some task.Deliver → is_some (delivery (machine_at p app slot)) ≡ true
-deliver_job time p app slot e = delivery_there time (machine_at p app slot) (delivered_job (terms_at p app slot).is_down (job_of time (machine_at p app slot)) e)
+pub deliver_job : (time : ℕ) (p : PlainPorts) (seat : Seat) → task_at time p seat ≡ Some task.Deliver → is_some (delivery (machine_at p seat)) ≡ true
+deliver_job time p seat e = delivery_there time (machine_at p seat) (delivered_job (terms_at p seat).is_down (job_of time (machine_at p seat)) e)
+

@@ -3,6 +3,7 @@ use Rattle.std.proofs.Common.{◌≡◌, ℕ, ◌<◌, List, [], ◌∷◌, ◌+
 use Rattle.std.specs.Prelude.{⊤}
 use Rattle.std.specs.List.{AllByRecursion}
 use Rattle.std.proofs.lemmas.List.{append-nil, append_assoc}
+use Rattle.csp_base.specs.declared.seat.Seat.{Seat}
 use Rattle.csp_base.specs.declared.limits.TheConstants.{SLOTS}
 use Rattle.csp_deck.specs.Runs.{IsRun, IsStep}
 use Rattle.csp_log.specs.declared.entry.Entry.{Entry}
@@ -17,7 +18,7 @@ use Rattle.csp_stack.specs.Router.{Facts, Leaving, State}
 use Rattle.csp_stack.specs.Turn.{asked_at, asks_at, timed, told_at}
 use Rattle.csp_prefix.specs.Routers.{ComesSo, router_steps}
 use Rattle.csp_prefix.proofs.PayloadReads.{delivered_after}
-use Rattle.csp_prefix.proofs.RouterBooks.{Past, past_after}
+use Rattle.csp_prefix.proofs.RouterBooks.{Past, ends_of, past_after}
 use Rattle.csp_prefix.proofs.RouterStanding.{Aim, IsAim, IsPart, Stands}
 use Rattle.csp_prefix.proofs.RouterTurn.{FoundSo, HearsSo, PushedSo, part_before, turn_stands}
 
@@ -29,17 +30,17 @@ abbrev pub past_of : List Entry → Past → Past
 past_of [] h = h
 past_of (e ∷ es) h = past_of es (past_with e h)
 
-pub reads_opened : (es : List Entry) (h : Past) (app : ℕ) → (past_of es h).opened app ≡ h.opened app ++ openings_after app (h.ends app) es
+pub reads_opened : (es : List Entry) (h : Past) (app : ℕ) → (past_of es h).opened app ≡ h.opened app ++ openings_after app (ends_of app h) es
 reads_opened [] h app = sym (append-nil _)
 reads_opened (e ∷ es) h app = reads_opened es (past_with e h) app ∙ append_assoc (h.opened app) _ _
 
-pub reads_sent : (es : List Entry) (h : Past) (app slot ordinal : ℕ) → (past_of es h).sent app slot ordinal ≡ h.sent app slot ordinal ++ payloads_after way.Sent app slot ordinal (h.ends app) es
-reads_sent [] h app slot ordinal = sym (append-nil _)
-reads_sent (e ∷ es) h app slot ordinal = reads_sent es (past_with e h) app slot ordinal ∙ append_assoc (h.sent app slot ordinal) _ _
+pub reads_sent : (es : List Entry) (h : Past) (seat : Seat) (ordinal : ℕ) → (past_of es h).sent seat ordinal ≡ h.sent seat ordinal ++ payloads_after way.Sent seat ordinal (ends_of seat.app h) es
+reads_sent [] h seat ordinal = sym (append-nil _)
+reads_sent (e ∷ es) h seat ordinal = reads_sent es (past_with e h) seat ordinal ∙ append_assoc (h.sent seat ordinal) _ _
 
-pub reads_down : (es : List Entry) (h : Past) (app slot ordinal : ℕ) → (past_of es h).down app slot ordinal ≡ h.down app slot ordinal ++ delivered_after app slot ordinal (h.ends app) es
-reads_down [] h app slot ordinal = sym (append-nil _)
-reads_down (e ∷ es) h app slot ordinal = reads_down es (past_with e h) app slot ordinal ∙ append_assoc (h.down app slot ordinal) _ _
+pub reads_down : (es : List Entry) (h : Past) (seat : Seat) (ordinal : ℕ) → (past_of es h).down seat ordinal ≡ h.down seat ordinal ++ delivered_after seat ordinal (ends_of seat.app h) es
+reads_down [] h seat ordinal = sym (append-nil _)
+reads_down (e ∷ es) h seat ordinal = reads_down es (past_with e h) seat ordinal ∙ append_assoc (h.down seat ordinal) _ _
 
 pub part_of : (es : List Entry) (h whole : Past) → IsPart (past_of es h) whole → IsPart h whole
 part_of [] h whole p = p
@@ -54,12 +55,12 @@ pub record IsCome (g : Aim) (e : Entry) : Type 0 where
 -- what is to be known of the machines of a router's slots that owe something at its turns, once its timers were tried
 abbrev pub AreFound : (PlainRdp → Type 0) → Facts → State → List Entry → Type 0
 AreFound At f s [] = ⊤
-AreFound At f s (e ∷ es) = ((app slot : ℕ) (j : Job) → app < f.apps → slot < SLOTS → job_of e.time (machine_at (timed s e.time).ports app slot) ≡ Some j → At (machine_at (timed s e.time).ports app slot)) × AreFound At f (told_at f (asked_at f s e.time) e.time e.answer).state es
+AreFound At f s (e ∷ es) = ((seat : Seat) (j : Job) → seat.app < f.apps → seat.slot < SLOTS → job_of e.time (machine_at (timed s e.time).ports seat) ≡ Some j → At (machine_at (timed s e.time).ports seat)) × AreFound At f (told_at f (asked_at f s e.time) e.time e.answer).state es
 
 -- where nothing is to be known of them, it is so
 pub found_any : (f : Facts) (s : State) (es : List Entry) → AreFound (λ r. ⊤) f s es
 found_any f s [] = tt
-found_any f s (e ∷ es) = (λ app slot j few low owed. tt, found_any f (told_at f (asked_at f s e.time) e.time e.answer).state es)
+found_any f s (e ∷ es) = (λ seat j few low owed. tt, found_any f (told_at f (asked_at f s e.time) e.time e.answer).state es)
 
 pub record IsRunSo (g : Aim) (f : Facts) (h : Past) (es : List Entry) : Type 0 where
   pub ports : PlainPorts
@@ -83,3 +84,4 @@ module _ (g : Aim) (f : Facts) (whole : Past) (k : IsAim g f whole) where
       let done = step_stands e h s found.0 run.1 come.0 (part_of es (past_with e h) whole part) w in
       let rest = run_stands es e.time (past_with e h) (told_at f (asked_at f s e.time) e.time e.answer).state run.2 found.1 come.1 part done.0 in
       record { ports = rest.ports; leaves = rest.leaves; stands = rest.stands; pushed = (done.1, rest.pushed) }
+

@@ -1,9 +1,11 @@
 -- what comes of an item of an application
 use Rattle.std.proofs.Common.{◌≡◌, ◌≢◌, ◌⊎◌, inl, inr, ℕ, ◌<◌, ◌==◌, ◌&&◌, Bool, true, false, Option, None, Some, List, [], ◌∷◌, ◌++◌, refl, sym, ap, ◌∙◌, subst, arith}
-use Rattle.std.specs.Prelude.{if◌then◌else◌, nat_lt}
+use Rattle.std.specs.Prelude.{if◌then◌else◌, is_some, nat_lt}
 use Rattle.std.specs.List.{AllByRecursion, flat_map}
 use Rattle.std.proofs.lemmas.Bool.{eq-eqb}
 use Rattle.std.proofs.lemmas.List.{append-nil}
+use Rattle.csp_base.specs.Seat.{seat}
+use Rattle.csp_base.specs.declared.seat.Seat.{Seat}
 use Rattle.csp_buffer.specs.Content.{Content}
 use Rattle.csp_conn.specs.PlainConns.{slot_at}
 use Rattle.csp_base.specs.declared.limits.TheConstants.{SLOTS}
@@ -22,7 +24,7 @@ use Rattle.csp_log.specs.declared.shown.AnswerShown.TheVariants as answer
 use Rattle.csp_log.specs.declared.shown.ItemShown.{ItemShown}
 use Rattle.csp_log.specs.declared.shown.ItemShown.TheVariants as item
 use Rattle.csp_log.specs.declared.shown.OpShown.TheVariants as op
-use Rattle.csp_ports.specs.Asking.{bind, bind_by, close, connect}
+use Rattle.csp_ports.specs.Asking.{bind, close, connect}
 use Rattle.csp_ports.specs.Asking.{is_reliable}
 use Rattle.csp_ports.specs.Came.{Came}
 use Rattle.csp_ports.specs.Packets.{submitting}
@@ -41,13 +43,12 @@ use Rattle.csp_header.specs.Word.{header_at}
 use Rattle.csp_socket.specs.Bound.{owner_of}
 use Rattle.csp_socket.specs.declared.sockets.TheConstants.{BINDABLE_PORTS}
 use Rattle.csp_stack.specs.Readings.{is_checked}
-use Rattle.csp_stack.specs.Router.{Facts, State, origin_of}
-use Rattle.csp_stack.specs.Rules.{addressed, by_mark, by_slot, header_for, on_connection, requested, sent, sent_by, served}
-use Rattle.csp_stack.specs.Told.{Told, discarded}
-use Rattle.csp_prefix.specs.Ports.{AreGood, IsInUse, IsSlot, Submits, now_at, with_sent}
+use Rattle.csp_stack.specs.Router.{Facts, State, flows_of, router}
+use Rattle.csp_stack.specs.Rules.{addressed, by_mark, by_slot, header_for, requested, sent, sent_by, sent_on, served}
+use Rattle.csp_stack.specs.Told.{Told, discarded, ported}
+use Rattle.csp_prefix.specs.Ports.{AreGood, Books, IsInUse, IsSlot, Submits, is_same, now_at, with_sent}
 use Rattle.csp_prefix.specs.Routers.{IsUntraced}
-use Rattle.csp_prefix.specs.Slots.{Book}
-use Rattle.csp_prefix.proofs.RouterBooks.{Past, Tells, no_openings_of, past_after, past_same, sent_on, tells_sent}
+use Rattle.csp_prefix.proofs.RouterBooks.{Past, Tells, ends_of, no_openings_of, one_sent, past_after, past_same, tells_sent}
 use Rattle.csp_prefix.proofs.RouterEntry.{AreUnsent, none_on, quiet_entry}
 use Rattle.csp_prefix.proofs.RouterHeard.{Quietly, protected_trace, stands_discarded, stands_sent, stands_unchanged}
 use Rattle.csp_prefix.proofs.RouterStanding.{Aim, IsAim, IsOut, Stands, good_plain, stands_comes}
@@ -63,21 +64,21 @@ unsent_one e none slot None = refl
 unsent_one e none slot (Some payload) = rw (none slot) refl
 
 -- ---- the entry of a packet that was sent on a connection
-sent_here : (k slot a s : ℕ) (payload : List ℕ) (told : ℕ) (rest : List Event) → AreUnsent rest
-    → told_on way.Sent s (event.Sent slot told ∷ rest) (if k == a then Some payload else None) ≡ (if k == a && slot == s then payload ∷ [] else [])
-sent_here k slot a s payload told rest unsent = by_app (k == a)
+sent_here : (seat a : Seat) (payload : List ℕ) (told : ℕ) (rest : List Event) → AreUnsent rest
+    → told_on way.Sent a.slot (event.Sent seat.slot told ∷ rest) (if seat.app == a.app then Some payload else None) ≡ (if is_same seat a then payload ∷ [] else [])
+sent_here seat a payload told rest unsent = by_app (seat.app == a.app)
   where
-    by_app : (t : Bool) → told_on way.Sent s (event.Sent slot told ∷ rest) (if t then Some payload else None) ≡ (if t && slot == s then payload ∷ [] else [])
+    by_app : (t : Bool) → told_on way.Sent a.slot (event.Sent seat.slot told ∷ rest) (if t then Some payload else None) ≡ (if t && seat.slot == a.slot then payload ∷ [] else [])
     by_app false = refl
-    by_app true = ap (λ xs. (if slot == s then payload ∷ [] else []) ++ xs) (unsent s (Some payload)) ∙ append-nil _
+    by_app true = ap (λ xs. (if seat.slot == a.slot then payload ∷ [] else []) ++ xs) (unsent a.slot (Some payload)) ∙ append-nil _
 
-pub sent_entry : (k slot told : ℕ) (b : Content) (rest : List Event) (h : Past) → AreUnsent rest → ((app : ℕ) (ends : Ends) → flat_map (opened_by app ends) rest ≡ [])
-    → sent_on k slot b.payload h ≡ past_after (op.Pop (queue.Up k)) (answer.Popped (item.Packet slot b)) (event.Sent slot told ∷ rest) h
-sent_entry k slot told b rest h unsent none =
-    past_same (sent_on k slot b.payload h) (past_after (op.Pop (queue.Up k)) (answer.Popped (item.Packet slot b)) (event.Sent slot told ∷ rest) h)
-    (λ app. sym (append-nil (h.opened app)) ∙ ap (λ xs. h.opened app ++ xs) (sym (none app (h.ends app))))
-    (λ a s o. ap (λ xs. h.sent a s o ++ (if h.ends a s == o then xs else [])) (sym (sent_here k slot a s b.payload told rest unsent)))
-    (λ a s o. sym (append-nil _) ∙ ap (λ xs. h.down a s o ++ xs) (none_on (h.ends a s == o) [] refl)) (λ a s. refl) refl
+pub sent_entry : (seat : Seat) (told : ℕ) (b : Content) (rest : List Event) (h : Past) → AreUnsent rest → ((app : ℕ) (ends : Ends) → flat_map (opened_by app ends) rest ≡ [])
+    → one_sent seat b.payload h ≡ past_after (op.Pop (queue.Up seat.app)) (answer.Popped (item.Packet seat.slot b)) (event.Sent seat.slot told ∷ rest) h
+sent_entry seat told b rest h unsent none =
+    past_same (one_sent seat b.payload h) (past_after (op.Pop (queue.Up seat.app)) (answer.Popped (item.Packet seat.slot b)) (event.Sent seat.slot told ∷ rest) h)
+    (λ app. sym (append-nil (h.opened app)) ∙ ap (λ xs. h.opened app ++ xs) (sym (none app (ends_of app h))))
+    (λ a o. ap (λ xs. h.sent a o ++ (if h.ends a == o then xs else [])) (sym (sent_here seat a b.payload told rest unsent)))
+    (λ a o. sym (append-nil _) ∙ ap (λ xs. h.down a o ++ xs) (none_on (h.ends a == o) [] refl)) (λ a. refl) refl
 
 -- a packet without a trace has none when it is addressed
 addressed_untraced : (f : Facts) (c : Connection) (t : Terms) (i : ℕ) (b : Content) → IsUntraced (item.Packet i b) → (addressed f c t b).trace.tag ≡ None
@@ -101,11 +102,11 @@ module _ (g : Aim) (f : Facts) (whole : Past) (k : IsAim g f whole) where
 
   quiet_packet : (h : Past) (app mark : ℕ) (b : Content) (t : Told) → AreUnsent t.events → Quietly g f whole k h t → Serves h app (item.Packet mark b) t
   quiet_packet h app mark b t unsent w fresh =
-      subst (λ x. Stands g f x t.state.ports t.state.out) (quiet_entry (op.Pop (queue.Up app)) (answer.Popped (item.Packet mark b)) t.events h (record { free = λ a s. refl; sent = λ a s. unsent s _; down = λ a s. refl })) (w fresh)
+      subst (λ x. Stands g f x t.state.ports t.state.out) (quiet_entry (op.Pop (queue.Up app)) (answer.Popped (item.Packet mark b)) t.events h (record { free = λ a. refl; sent = λ a. unsent a.slot _; down = λ a. refl })) (w fresh)
 
   quiet_note : (h : Past) (app : ℕ) (n : Note) (t : Told) → Quietly g f whole k h t → Serves h app (item.Note n) t
   quiet_note h app n t w fresh =
-      subst (λ x. Stands g f x t.state.ports t.state.out) (quiet_entry (op.Pop (queue.Up app)) (answer.Popped (item.Note n)) t.events h (record { free = λ a s. refl; sent = λ a s. refl; down = λ a s. refl })) (w fresh)
+      subst (λ x. Stands g f x t.state.ports t.state.out) (quiet_entry (op.Pop (queue.Up app)) (answer.Popped (item.Note n)) t.events h (record { free = λ a. refl; sent = λ a. refl; down = λ a. refl })) (w fresh)
 
   discarded_unsent : (reason : why.the_data) → AreUnsent (event.Discarded reason ∷ [])
   discarded_unsent reason = unsent_one (event.Discarded reason) (λ s. refl)
@@ -113,7 +114,7 @@ module _ (g : Aim) (f : Facts) (whole : Past) (k : IsAim g f whole) where
   -- ---- a good packet goes out
   record IsSentOff (s : State) (t : Told) : Type 0 where
     ports : t.state.ports ≡ s.ports
-    leaves : (books : ℕ → ℕ → Book) → IsOut g f.apps books t.state.out
+    leaves : (books : Books) → IsOut g f.apps books t.state.out
     unsent : AreUnsent t.events
     none : (app : ℕ) (ends : Ends) → flat_map (opened_by app ends) t.events ≡ []
 
@@ -123,52 +124,52 @@ module _ (g : Aim) (f : Facts) (whole : Past) (k : IsAim g f whole) where
   sent_off false (Some row) s b empty good = record { ports = refl; leaves = λ books. inl good; unsent = unsent_none; none = λ app ends. refl }
 
   -- ---- a packet for a slot
-  by_connection_so : (reliable : Bool) (c : Connection) (h : Past) (s : State) (app slot time : ℕ) (b : Content) → slot_at s.ports.conns app slot ≡ has.Open c → is_reliable (terms_at s.ports app slot).flags ≡ reliable
-      → app < s.ports.conns.apps → slot < SLOTS → stalled_at s.ports app ≡ None → s.out ≡ None → IsUntraced (item.Packet slot b) → Stands g f h s.ports s.out → Serves h app (item.Packet slot b) (on_connection reliable c f s app slot time b)
-  by_connection_so false c h s app slot time b there plain few low free empty untraced w =
-      let told : ℕ = (terms_at s.ports app slot).ordinal in
-      let x : Content = addressed f c (terms_at s.ports app slot) b in
+  by_connection_so : (reliable : Bool) (c : Connection) (h : Past) (s : State) (seat : Seat) (time : ℕ) (b : Content) → slot_at s.ports.conns seat ≡ has.Open c → is_reliable (terms_at s.ports seat).flags ≡ reliable
+      → seat.app < s.ports.conns.apps → seat.slot < SLOTS → stalled_at s.ports seat.app ≡ None → s.out ≡ None → IsUntraced (item.Packet seat.slot b) → Stands g f h s.ports s.out → Serves h seat.app (item.Packet seat.slot b) (if reliable then ported s (submitting s.ports seat b time) else sent_on c (router f s) seat b)
+  by_connection_so false c h s seat time b there plain few low free empty untraced w =
+      let told : ℕ = (terms_at s.ports seat).ordinal in
+      let x : Content = addressed f c (terms_at s.ports seat) b in
       let to : ℕ = (header_at x.header).dst in
-      let off = sent_off (to == f.addr) (route_of s.routes to) s x empty (k.unreliable x (addressed_untraced f c (terms_at s.ports app slot) slot b untraced) (addressed_unreliable f c (terms_at s.ports app slot) b plain)) in
+      let off = sent_off (to == f.addr) (route_of s.routes to) s x empty (k.unreliable x (addressed_untraced f c (terms_at s.ports seat) seat.slot b untraced) (addressed_unreliable f c (terms_at s.ports seat) b plain)) in
       let t : Told = sent f s x in
-      let one = w.good.slots app slot few low in
-      let used = subst (λ o. IsSlot g.is o (terms_at s.ports app slot) w.numbering app slot (now_at s.ports w.books app slot)) there one in
-      let opened = (subst (λ r. IsInUse g.is r w.numbering app slot (now_at s.ports w.books app slot)) plain used).opened in
-      λ fresh. subst (λ y. Stands g f y t.state.ports t.state.out) (sent_entry app slot told b t.events h off.unsent off.none) (record {
+      let one = w.good.slots seat few low in
+      let used = subst (λ o. IsSlot g.is o (terms_at s.ports seat) w.numbering seat (now_at s.ports w.books seat)) there one in
+      let opened = (subst (λ r. IsInUse g.is r w.numbering seat (now_at s.ports w.books seat)) plain used).opened in
+      λ fresh. subst (λ y. Stands g f y t.state.ports t.state.out) (sent_entry seat told b t.events h off.unsent off.none) (record {
         numbering = w.numbering;
-        books = with_sent app slot b.payload w.books;
-        good = subst (λ p. AreGood g.is w.numbering h.ends (with_sent app slot b.payload w.books) p) (sym off.ports)
-            (good_plain g f whole k w.numbering h.ends w.books s.ports app slot (record (w.books app slot) { sent = (w.books app slot).sent ++ b.payload ∷ [] }) opened refl w.good);
-        tells = tells_sent g.over f.apps w.numbering h w.books app slot b.payload w.tells;
+        books = with_sent seat b.payload w.books;
+        good = subst (λ p. AreGood g.is w.numbering h.ends (with_sent seat b.payload w.books) p) (sym off.ports)
+            (good_plain g f whole k w.numbering h.ends w.books s.ports seat (record (w.books seat) { sent = (w.books seat).sent ++ b.payload ∷ [] }) opened refl w.good);
+        tells = tells_sent g.over f.apps w.numbering h w.books seat b.payload w.tells;
         apps = ap (λ (p : PlainPorts). p.conns.apps) off.ports ∙ w.apps;
-        out = off.leaves (with_sent app slot b.payload w.books);
+        out = off.leaves (with_sent seat b.payload w.books);
       })
-  by_connection_so true c h s app slot time b there reliable few low free empty untraced w =
-      let came : Came = submitting s.ports app slot b time in
-      let done = k.ports.submits w.numbering h.ends w.books s.ports app slot b time few low (record { connection = c; there = there; reliable = reliable }) free w.good in
-      by_state came done (open_or (machine_at s.ports app slot).state)
+  by_connection_so true c h s seat time b there reliable few low free empty untraced w =
+      let came : Came = submitting s.ports seat b time in
+      let done = k.ports.submits w.numbering h.ends w.books s.ports seat b time few low (record { connection = c; there = there; reliable = reliable }) free w.good in
+      by_state came done (open_or (machine_at s.ports seat).state)
     where
-      none_out : (books : ℕ → ℕ → Book) → IsOut g f.apps books s.out
+      none_out : (books : Books) → IsOut g f.apps books s.out
       none_out books = subst (IsOut g f.apps books) (sym empty) tt
 
-      by_state : (came : Came) → Submits g.is w.numbering h.ends w.books s.ports app slot b came → ((machine_at s.ports app slot).state ≡ state.Open) ⊎ ((machine_at s.ports app slot).state ≢ state.Open)
-          → AllByRecursion g.fresh came.events → Stands g f (past_after (op.Pop (queue.Up app)) (answer.Popped (item.Packet slot b)) came.events h) came.ports s.out
+      by_state : (came : Came) → Submits g.is w.numbering h.ends w.books s.ports seat b came → ((machine_at s.ports seat).state ≡ state.Open) ⊎ ((machine_at s.ports seat).state ≢ state.Open)
+          → AllByRecursion g.fresh came.events → Stands g f (past_after (op.Pop (queue.Up seat.app)) (answer.Popped (item.Packet seat.slot b)) came.events h) came.ports s.out
       by_state came done (inl is) fresh =
           let now = done.sent is in
-          subst (λ es. Stands g f (past_after (op.Pop (queue.Up app)) (answer.Popped (item.Packet slot b)) es h) came.ports s.out) (sym now.0)
-          (subst (λ y. Stands g f y came.ports s.out) (sent_entry app slot (terms_at s.ports app slot).ordinal b [] h unsent_none (λ a ends. refl)) (record {
+          subst (λ es. Stands g f (past_after (op.Pop (queue.Up seat.app)) (answer.Popped (item.Packet seat.slot b)) es h) came.ports s.out) (sym now.0)
+          (subst (λ y. Stands g f y came.ports s.out) (sent_entry seat (terms_at s.ports seat).ordinal b [] h unsent_none (λ a ends. refl)) (record {
             numbering = w.numbering;
-            books = with_sent app slot b.payload w.books;
+            books = with_sent seat b.payload w.books;
             good = now.1;
-            tells = tells_sent g.over f.apps w.numbering h w.books app slot b.payload w.tells;
+            tells = tells_sent g.over f.apps w.numbering h w.books seat b.payload w.tells;
             apps = done.same ∙ w.apps;
-            out = none_out (with_sent app slot b.payload w.books);
+            out = none_out (with_sent seat b.payload w.books);
           }))
       by_state came done (inr is) fresh =
           let now = done.not_sent is in
-          subst (λ es. Stands g f (past_after (op.Pop (queue.Up app)) (answer.Popped (item.Packet slot b)) es h) came.ports s.out) (sym now.0)
+          subst (λ es. Stands g f (past_after (op.Pop (queue.Up seat.app)) (answer.Popped (item.Packet seat.slot b)) es h) came.ports s.out) (sym now.0)
           (subst (λ y. Stands g f y came.ports s.out)
-          (quiet_entry (op.Pop (queue.Up app)) (answer.Popped (item.Packet slot b)) (event.Discarded why.NoConn ∷ []) h (record { free = λ a s. refl; sent = λ a s. discarded_unsent why.NoConn s _; down = λ a s. refl }))
+          (quiet_entry (op.Pop (queue.Up seat.app)) (answer.Popped (item.Packet seat.slot b)) (event.Discarded why.NoConn ∷ []) h (record { free = λ a. refl; sent = λ a. discarded_unsent why.NoConn a.slot _; down = λ a. refl }))
           (record {
             numbering = w.numbering;
             books = w.books;
@@ -178,39 +179,41 @@ module _ (g : Aim) (f : Facts) (whole : Past) (k : IsAim g f whole) where
             out = none_out w.books;
           }))
 
-  by_slot_so : (o : Slot) (h : Past) (s : State) (app slot time : ℕ) (b : Content) → slot_at s.ports.conns app slot ≡ o → app < s.ports.conns.apps → slot < SLOTS → stalled_at s.ports app ≡ None → s.out ≡ None
-      → IsUntraced (item.Packet slot b) → Stands g f h s.ports s.out → Serves h app (item.Packet slot b) (by_slot o f s app slot time b)
-  by_slot_so has.Free h s app slot time b there few low free empty untraced w = quiet_packet h app slot b (discarded s why.NoConn b) (discarded_unsent why.NoConn) (stands_discarded g f whole k h s why.NoConn b w)
-  by_slot_so has.Held h s app slot time b there few low free empty untraced w = quiet_packet h app slot b (discarded s why.NoConn b) (discarded_unsent why.NoConn) (stands_discarded g f whole k h s why.NoConn b w)
-  by_slot_so (has.Open c) h s app slot time b there few low free empty untraced w = by_connection_so (is_reliable (terms_at s.ports app slot).flags) c h s app slot time b there refl few low free empty untraced w
+  by_slot_so : (o : Slot) (h : Past) (s : State) (seat : Seat) (time : ℕ) (b : Content) → slot_at s.ports.conns seat ≡ o → seat.app < s.ports.conns.apps → seat.slot < SLOTS → stalled_at s.ports seat.app ≡ None → s.out ≡ None
+      → IsUntraced (item.Packet seat.slot b) → Stands g f h s.ports s.out → Serves h seat.app (item.Packet seat.slot b) (by_slot o (router f s) seat time b)
+  by_slot_so has.Free h s seat time b there few low free empty untraced w = quiet_packet h seat.app seat.slot b (discarded s why.NoConn b) (discarded_unsent why.NoConn) (stands_discarded g f whole k h s why.NoConn b w)
+  by_slot_so has.Held h s seat time b there few low free empty untraced w = quiet_packet h seat.app seat.slot b (discarded s why.NoConn b) (discarded_unsent why.NoConn) (stands_discarded g f whole k h s why.NoConn b w)
+  by_slot_so (has.Open c) h s seat time b there few low free empty untraced w = by_connection_so (is_reliable (terms_at s.ports seat).flags) c h s seat time b there refl few low free empty untraced w
 
   by_mark_so : (unmarked : Bool) (h : Past) (s : State) (app mark time : ℕ) (b : Content) → (mark == UNMARKED) ≡ unmarked → app < s.ports.conns.apps → IsUpItem (item.Packet mark b) → stalled_at s.ports app ≡ None → s.out ≡ None
-      → IsUntraced (item.Packet mark b) → g.comes (item.Packet mark b) → Stands g f h s.ports s.out → Serves h app (item.Packet mark b) (by_mark unmarked f s app mark time b)
+      → IsUntraced (item.Packet mark b) → g.comes (item.Packet mark b) → Stands g f h s.ports s.out → Serves h app (item.Packet mark b) (by_mark unmarked (router f s) (seat app mark) time b)
   by_mark_so true h s app mark time b e few up free empty untraced comes w =
       let good = k.unmarked mark b e (ap (λ x. x.tag) untraced) comes in
       let off = sent_off ((header_at b.header).dst == f.addr) (route_of s.routes (header_at b.header).dst) s b empty good in
       quiet_packet h app mark b (sent f s b) off.unsent (stands_sent g f whole k h s b w good)
   by_mark_so false h s app mark time b e few up free empty untraced comes w =
       let marked : mark ≢ UNMARKED = λ is. absurd (let same : (mark == UNMARKED) ≡ true = eq-eqb mark UNMARKED is in cc) in
-      by_slot_so (slot_at s.ports.conns app mark) h s app mark time b refl few (up marked).0 free empty untraced w
+      by_slot_so (slot_at s.ports.conns (seat app mark)) h s (seat app mark) time b refl few (up marked).0 free empty untraced w
 
   -- ---- a request
   requested_so : (n : Note) (h : Past) (s : State) (app time : ℕ) → app < s.ports.conns.apps → IsUpItem (item.Note n) → stalled_at s.ports app ≡ None → g.comes (item.Note n) → Stands g f h s.ports s.out → Quietly g f whole k h (requested f s app time n)
   requested_so (note.Bind port need) h s app time few up free comes w =
       stands_unchanged g f whole k h (record s { ports = bind s.ports app port need })
-      (record { numbering = w.numbering; books = w.books; good = k.ports.binds w.numbering h.ends w.books s.ports app port need few w.good; tells = w.tells; apps = bind_apps (owner_of s.ports.bound port) (nat_lt port BINDABLE_PORTS) ∙ w.apps; out = w.out })
+      (record { numbering = w.numbering; books = w.books; good = k.ports.binds w.numbering h.ends w.books s.ports app port need few w.good; tells = w.tells; apps = bind_apps ∙ w.apps; out = w.out })
     where
-      bind_apps : (o : Option (ℕ × ℕ)) (can : Bool) → (bind_by can o s.ports app port need).conns.apps ≡ s.ports.conns.apps
-      bind_apps o false = refl
-      bind_apps (Some owner) true = refl
-      bind_apps None true = refl
+      either : (b : Bool) (x y : PlainPorts) → x.conns.apps ≡ s.ports.conns.apps → y.conns.apps ≡ s.ports.conns.apps → (if b then x else y).conns.apps ≡ s.ports.conns.apps
+      either true x y e q = e
+      either false x y e q = q
+
+      bind_apps : (bind s.ports app port need).conns.apps ≡ s.ports.conns.apps
+      bind_apps = either (nat_lt port BINDABLE_PORTS) _ _ (either (is_some (owner_of s.ports.bound port)) _ _ refl refl) refl
   requested_so (note.Connect slot dest port prio flags from) h s app time few up free comes w =
-      let r : Request = record { slot = slot; dest = dest; port = port; prio = prio; flags = flags; from = from } in
-      let done = k.ports.connects w.numbering h.ends w.books s.ports app r time few up (k.wishes s.ports r comes) w.good in
-      λ fresh. stands_comes g f h s.ports s.out w done.after (connect (origin_of f) s.ports app r time) done.goes_on k.grows done.comes
+      let r : Request = record { seat = seat app slot; dest = dest; port = port; prio = prio; flags = flags; from = from } in
+      let done = k.ports.connects w.numbering h.ends w.books s.ports r time few up (k.wishes s.ports r comes) w.good in
+      λ fresh. stands_comes g f h s.ports s.out w done.after (connect (flows_of f) s.ports r time) done.goes_on k.grows done.comes
   requested_so (note.Close slot) h s app time few up free comes w =
-      λ fresh. stands_comes g f h s.ports s.out w w.numbering (close s.ports app slot time) (record { more = omega arith; same = λ n lt. refl }) k.grows
-      (k.ports.closes w.numbering h.ends w.books s.ports app slot time few up free w.good)
+      λ fresh. stands_comes g f h s.ports s.out w w.numbering (close s.ports (seat app slot) time) (record { more = omega arith; same = λ n lt. refl }) k.grows
+      (k.ports.closes w.numbering h.ends w.books s.ports (seat app slot) time few up free w.good)
   requested_so note.Bound h s app time few up free comes w = stands_unchanged g f whole k h s w
   requested_so (note.Connected slot) h s app time few up free comes w = stands_unchanged g f whole k h s w
   requested_so (note.Refused reason) h s app time few up free comes w = stands_unchanged g f whole k h s w
@@ -222,3 +225,4 @@ module _ (g : Aim) (f : Facts) (whole : Past) (k : IsAim g f whole) where
   stands_served (item.Packet mark b) h s app time few up untraced comes free empty w = by_mark_so (mark == UNMARKED) h s app mark time b refl few up free empty untraced comes w
   stands_served (item.Note n) h s app time few up untraced comes free empty w = quiet_note h app n (requested f s app time n) (requested_so n h s app time few up free comes w)
   stands_served (item.Frame frame) h s app time few up untraced comes free empty w = absurd up
+

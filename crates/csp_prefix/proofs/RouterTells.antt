@@ -1,13 +1,16 @@
 -- What the events of a router's turn tell: those of its timers, of lost packets alone; those of an application's packet, besides, that it was sent on its slot.
 -- That a packet was handed to a reliable connection a turn tells only of the one that it popped, and that such a connection is open only of one that was
 -- to become so.
-use Rattle.std.proofs.Common.{◌≡◌, ◌⊎◌, inl, inr, ℕ, ◌*◌, ◌/◌, ◌%◌, ◌==◌, not, Bool, true, false, cond, Option, None, Some, List, [], ◌∷◌, ◌++◌, refl, sym, ap, ◌∙◌, subst}
-use Rattle.std.specs.Prelude.{if◌then◌else◌, Result, Ok, Err, ⊤}
+use Rattle.std.proofs.Common.{◌≡◌, ◌⊎◌, inl, inr, ℕ, ◌*◌, ◌==◌, not, Bool, true, false, cond, Option, None, Some, List, [], ◌∷◌, ◌++◌, refl, sym, ap, ◌∙◌, subst}
+use Rattle.std.specs.Prelude.{if◌then◌else◌, Result, Ok, Err, unwrap_or, ⊤}
+use Rattle.std.specs.Option.{option_map}
 use Rattle.std.specs.List.{AllByRecursion, range_with_len}
+use Rattle.csp_base.specs.Seat.{seat}
+use Rattle.csp_base.specs.declared.seat.Seat.{Seat}
 use Rattle.csp_buffer.specs.Content.{Content}
 use Rattle.csp_buffer.specs.PlainBuffer.{PlainBuffer}
-use Rattle.csp_conn.specs.Opening.{first_free, found, is_refused, own_port_of}
-use Rattle.csp_conn.specs.PlainConns.{slot_at}
+use Rattle.csp_conn.specs.Opening.{found, free_seat, is_refused, own_port_of}
+use Rattle.csp_conn.specs.PlainConns.{seat_of, slot_at}
 use Rattle.csp_conn.specs.Slots.{is_free}
 use Rattle.csp_base.specs.declared.limits.TheConstants.{SLOTS}
 use Rattle.csp_conn.specs.declared.slot.Connection.{Connection}
@@ -24,6 +27,7 @@ use Rattle.csp_log.specs.declared.event.Event.{Event}
 use Rattle.csp_log.specs.declared.event.Event.TheVariants as event
 use Rattle.csp_log.specs.declared.note.Note.{Note}
 use Rattle.csp_log.specs.declared.note.Note.TheVariants as note
+use Rattle.csp_log.specs.declared.note.Why.TheVariants as reason
 use Rattle.csp_log.specs.declared.places.QueueId.TheVariants as queue
 use Rattle.csp_log.specs.declared.places.TheConstants.{UNMARKED}
 use Rattle.csp_log.specs.declared.shown.AnswerShown.{AnswerShown}
@@ -32,15 +36,15 @@ use Rattle.csp_log.specs.declared.shown.ItemShown.{ItemShown}
 use Rattle.csp_log.specs.declared.shown.ItemShown.TheVariants as item
 use Rattle.csp_log.specs.declared.shown.OpShown.{OpShown}
 use Rattle.csp_log.specs.declared.shown.OpShown.TheVariants as op
-use Rattle.csp_ports.specs.Asking.{answered_by, close_by, connect_by, ending_in, freed_by, held_by, is_reliable, joined}
+use Rattle.csp_ports.specs.Asking.{answered_by, asking, close_by, ending_in, freed_by, held_by, is_reliable, joined, linked, plain, unjoined}
 use Rattle.csp_ports.proofs.Public.{by_dropped}
 use Rattle.csp_ports.specs.Came.{Came, come, then as and_then}
-use Rattle.csp_ports.specs.Packets.{back_by, handing, handing_event, submitting_in}
+use Rattle.csp_ports.specs.Packets.{back_by, handing, handing_event, submitting, submitting_in}
 use Rattle.csp_ports.specs.PlainPorts.{PlainPorts, anywhere, has_machine, is_closing, machine_at, terms_at}
 use Rattle.csp_ports.specs.Steps.{changed, closed_by, dropped, dropped_of, refused_by, settled, stepped, timed as ports_timed, timed_at, timed_in, went, where_machine}
 use Rattle.csp_ports.specs.Tasks.{delivered, kept_again}
 use Rattle.csp_ports.specs.declared.handing.Invitation.{Invitation}
-use Rattle.csp_ports.specs.declared.origin.Origin.{Origin}
+use Rattle.csp_ports.specs.declared.flows.OwnFlows.{OwnFlows}
 use Rattle.csp_ports.specs.declared.owed.Owed.{Owed}
 use Rattle.csp_ports.specs.declared.request.Request.{Request}
 use Rattle.csp_ports.specs.declared.terms.Wish.{Wish}
@@ -48,12 +52,12 @@ use Rattle.csp_ports.specs.declared.terms.Wish.TheVariants as wish
 use Rattle.csp_rdp.specs.Changes.{change_between}
 use Rattle.csp_rdp.specs.Jobs.{closing, delivering, ticked}
 use Rattle.csp_rdp.specs.Machine.{PlainRdp}
-use Rattle.csp_rdp.specs.Table.{back_of, after_packet as machine_handed, is_stray, row_of}
+use Rattle.csp_rdp.specs.Table.{back_of, after_packet, is_stray, row_of}
 use Rattle.csp_rdp.specs.declared.answers.Change.{Change}
 use Rattle.csp_rdp.specs.declared.answers.Change.TheVariants as change
 use Rattle.csp_rdp.specs.declared.answers.State.{State as MachineState}
 use Rattle.csp_rdp.specs.declared.answers.State.TheVariants as state
-use Rattle.csp_rdp.specs.declared.answers.Cause.{Cause as MachineWhy}
+use Rattle.csp_rdp.specs.declared.answers.Cause.{Cause}
 use Rattle.csp_rdp.specs.declared.answers.Cause.TheVariants as machine_why
 use Rattle.csp_rdp.specs.declared.jobs.Job.{Job}
 use Rattle.csp_rdp_header.specs.Head.{parted}
@@ -71,10 +75,10 @@ use Rattle.csp_stack.proofs.Public.{by_rest, heard_here}
 use Rattle.csp_stack.specs.Comes.{heard_at_port, heard_at_socket, heard_elsewhere}
 use Rattle.csp_stack.specs.Counting.{came_in, counting, was_full}
 use Rattle.csp_stack.specs.Readings.{buffer_in, is_checked, is_here, is_pushed, is_secured, item_in}
-use Rattle.csp_stack.specs.Router.{Facts, Router, State, at_rest, origin_of}
-use Rattle.csp_stack.specs.Rules.{◌>>=◌, Arrival, Decided, Left, accepting, addressed, arrival, by_answer, by_connection, by_mark, by_row, by_service, by_slot, by_socket, connection_of, differs, forwarded, heard, invitation_of, inviting, is_lacking, is_mixed, made_on, on_connection, opening, owner_for, packet_in, requested, sent, sent_by, served, slot_of, to_connection, to_machine, to_slot, with_payload}
+use Rattle.csp_stack.specs.Router.{Facts, Router, State, at_rest, flows_of, router}
+use Rattle.csp_stack.specs.Rules.{Arrival, Decided, Left, accepting, addressed, arrival, by_answer, by_connection, by_mark, by_row, by_service, by_slot, by_socket, connection_of, differs, forwarded, heard, invitation_of, inviting, is_lacking, is_mixed, made_on, opening, owner_for, packet_in, requested, seat_for, sent, sent_by, sent_on, served, to_connection, to_machine, to_slot, with_payload, ◌>>=◌}
 use Rattle.csp_stack.specs.Serving.{facts_of, reply_in, with_facts}
-use Rattle.csp_stack.specs.Told.{Told, discarded, kept, leaving, unchanged, with_ports}
+use Rattle.csp_stack.specs.Told.{Told, discarded, kept, leaving, ported, unchanged, with_ports}
 use Rattle.csp_stack.specs.Turn.{asked_at, asked_by, asks_at, brought, no_room, plan_of, timed, told_at, turn_of}
 use Rattle.csp_stack.specs.declared.plan.Plan.{Plan}
 use Rattle.csp_stack.specs.declared.plan.Plan.TheVariants as plan
@@ -90,14 +94,13 @@ use Rattle.csp_prefix.proofs.RouterStanding.{IsRead, unwrapped}
 
 -- a packet that a router heard was handed to the reliable connection that its header names, which is on one of its slots, and the event tells so
 pub record IsHanding (f : Facts) (p : PlainPorts) (b : Content) (e : Event) : Type 0 where
-  pub app : ℕ
-  pub slot : ℕ
+  pub seat : Seat
   pub bytes : List ℕ
   pub parts : List ℕ × RdpHead
   pub read : IsRead f b bytes parts
-  pub at : found p.conns (connection_of (header_at b.header)) ≡ Some (app, slot)
-  pub kind : is_reliable (terms_at p app slot).flags ≡ true
-  pub told : e ≡ handing_event (machine_at p app slot) b.trace.tag
+  pub at : found p.conns (connection_of (header_at b.header)) ≡ Some seat
+  pub kind : is_reliable (terms_at p seat).flags ≡ true
+  pub told : e ≡ handing_event (machine_at p seat) b.trace.tag
 
 -- a turn popped a packet from the inbox, which was handed to its connection, and the event tells so
 pub record IsOfPopped (f : Facts) (p : PlainPorts) (o : OpShown) (a : AnswerShown) (e : Event) : Type 0 where
@@ -110,7 +113,7 @@ pub record IsOfPopped (f : Facts) (p : PlainPorts) (o : OpShown) (a : AnswerShow
 -- what a turn with this operation and this answer may tell
 abbrev pub TellsAt : Facts → PlainPorts → OpShown → AnswerShown → Event → Type 0
 TellsAt f p o a (event.Handed nth peer tag cur una) = IsOfPopped f p o a (event.Handed nth peer tag cur una)
-TellsAt f p o a (event.Opened app slot nth peer) = (nth ≡ None) ⊎ IsEarly (machine_at p app slot).state
+TellsAt f p o a (event.Opened app slot nth peer) = (nth ≡ None) ⊎ IsEarly (machine_at p (seat app slot)).state
 TellsAt f p o a _ = ⊤
 
 -- no packet is told to be handed to a reliable connection, and none to be open
@@ -134,7 +137,7 @@ lost_calm reason = tt
 -- ---- steps of ports, and packets that are sent: what holds of lost packets holds of what they tell
 
 -- a change that is an opening
-change_opens : (before after : MachineState) (reason : MachineWhy) → change_between before after reason ≡ change.Opened → Opens before after
+change_opens : (before after : MachineState) (reason : Cause) → change_between before after reason ≡ change.Opened → Opens before after
 change_opens state.SynSent state.Open reason e = tt
 change_opens state.SynRcvd state.Open reason e = tt
 change_opens state.SynSent state.Closed reason e = absurd cc
@@ -153,33 +156,33 @@ module _ (P : Event → Type 0) (lost : (reason : Discard) → P (event.Discarde
   then_so : (c : Came) (next : PlainPorts → Came) → Each c.events → Each (next c.ports).events → Each (and_then c next).events
   then_so c next first second = AllByRecursion-append P c.events (next c.ports).events first second
 
-  refused_so : (w : Wish) (reason : MachineWhy) (app slot : ℕ) (p : PlainPorts) → Each (refused_by w reason app slot p).events
-  refused_so wish.Connection reason app slot p = tt
-  refused_so wish.Nothing reason app slot p = tt
-  refused_so wish.End reason app slot p = tt
-  refused_so wish.Ended reason app slot p = tt
+  refused_so : (w : Wish) (reason : Cause) (seat : Seat) (p : PlainPorts) → Each (refused_by w reason seat p).events
+  refused_so wish.Connection reason seat p = tt
+  refused_so wish.Nothing reason seat p = tt
+  refused_so wish.End reason seat p = tt
+  refused_so wish.Ended reason seat p = tt
 
-  closed_so : (w : Wish) (was_open : Bool) (app slot : ℕ) (p : PlainPorts) → Each (closed_by w was_open app slot p).events
-  closed_so wish.End was_open app slot p = tt
-  closed_so wish.Nothing true app slot p = tt
-  closed_so wish.Nothing false app slot p = tt
-  closed_so wish.Connection was_open app slot p = tt
-  closed_so wish.Ended was_open app slot p = tt
+  closed_so : (w : Wish) (was_open : Bool) (seat : Seat) (p : PlainPorts) → Each (closed_by w was_open seat p).events
+  closed_so wish.End was_open seat p = tt
+  closed_so wish.Nothing true seat p = tt
+  closed_so wish.Nothing false seat p = tt
+  closed_so wish.Connection was_open seat p = tt
+  closed_so wish.Ended was_open seat p = tt
 
-  changed_so : (c : Change) (app slot : ℕ) (p : PlainPorts) → (c ≡ change.Opened → (nth : ℕ) (peer : Option (ℕ × ℕ)) → P (event.Opened app slot (Some nth) peer)) → Each (changed c app slot p).events
-  changed_so change.None app slot p opens = tt
-  changed_so change.Opened app slot p opens = (opens refl (machine_at p app slot).nth (machine_at p app slot).peer, tt)
-  changed_so (change.Refused reason) app slot p opens = refused_so (terms_at p app slot).wish reason app slot p
-  changed_so change.Down app slot p opens = tt
-  changed_so change.Closed app slot p opens = closed_so (terms_at p app slot).wish (machine_at p app slot).was_open app slot p
+  changed_so : (c : Change) (seat : Seat) (p : PlainPorts) → (c ≡ change.Opened → (nth : ℕ) (peer : Option (ℕ × ℕ)) → P (event.Opened seat.app seat.slot (Some nth) peer)) → Each (changed c seat p).events
+  changed_so change.None seat p opens = tt
+  changed_so change.Opened seat p opens = (opens refl (machine_at p seat).nth (machine_at p seat).peer, tt)
+  changed_so (change.Refused reason) seat p opens = refused_so (terms_at p seat).wish reason seat p
+  changed_so change.Down seat p opens = tt
+  changed_so change.Closed seat p opens = closed_so (terms_at p seat).wish (machine_at p seat).was_open seat p
 
   -- the step of a machine, which may open its connection
-  went_so : (before : MachineState) (reason : MachineWhy) (app slot : ℕ) (r : PlainRdp) (p : PlainPorts) → (Opens before r.state → (nth : ℕ) (peer : Option (ℕ × ℕ)) → P (event.Opened app slot (Some nth) peer)) → Each (went before reason app slot r p).events
-  went_so before reason app slot r p opens = changed_so (change_between before r.state reason) app slot (stepped app slot r p).ports (λ e. opens (change_opens before r.state reason e))
+  went_so : (before : MachineState) (reason : Cause) (seat : Seat) (r : PlainRdp) (p : PlainPorts) → (Opens before r.state → (nth : ℕ) (peer : Option (ℕ × ℕ)) → P (event.Opened seat.app seat.slot (Some nth) peer)) → Each (went before reason seat r p).events
+  went_so before reason seat r p opens = changed_so (change_between before r.state reason) seat (stepped seat r p).ports (λ e. opens (change_opens before r.state reason e))
 
   -- or never does
-  went_lost : (before : MachineState) (reason : MachineWhy) (app slot : ℕ) (r : PlainRdp) (p : PlainPorts) → (Opens before r.state → ⊥) → Each (went before reason app slot r p).events
-  went_lost before reason app slot r p never = went_so before reason app slot r p (λ o nth peer. absurd (never o))
+  went_lost : (before : MachineState) (reason : Cause) (seat : Seat) (r : PlainRdp) (p : PlainPorts) → (Opens before r.state → ⊥) → Each (went before reason seat r p).events
+  went_lost before reason seat r p never = went_so before reason seat r p (λ o nth peer. absurd (never o))
 
   -- a slot with a machine makes its step, and one without makes none
   where_so : (b : Bool) (step : PlainPorts → Came) (p : PlainPorts) → Each (step p).events → Each (where_machine b step p).events
@@ -190,16 +193,16 @@ module _ (P : Event → Type 0) (lost : (reason : Discard) → P (event.Discarde
   dropped_so app p = by_dropped (λ c. Each c.events) app p (λ opens. tt) (λ s e shut. (lost why.NoConn, tt))
 
   -- the timers
-  timed_at_so : (time app slot : ℕ) (p : PlainPorts) → Each (timed_at time app slot p).events
-  timed_at_so time app slot p =
-      let r = machine_at p app slot in
-      where_so (has_machine p app slot) (went r.state machine_why.Timeout app slot (ticked time r)) p (went_lost r.state machine_why.Timeout app slot (ticked time r) p (ways-not r (ticked time r) (ways-ticked time r)))
+  timed_at_so : (time : ℕ) (seat : Seat) (p : PlainPorts) → Each (timed_at time seat p).events
+  timed_at_so time seat p =
+      let r = machine_at p seat in
+      where_so (has_machine p seat) (went r.state machine_why.Timeout seat (ticked time r)) p (went_lost r.state machine_why.Timeout seat (ticked time r) p (ways-not r (ticked time r) (ways-ticked time r)))
 
   timed_in_so : (time : ℕ) (ks : List ℕ) (p : PlainPorts) → Each (timed_in time ks p).events
   timed_in_so time [] p = tt
   timed_in_so time (k ∷ ks) p =
-      let c = timed_at time (k / SLOTS) (k % SLOTS) p in
-      then_so c (timed_in time ks) (timed_at_so time (k / SLOTS) (k % SLOTS) p) (timed_in_so time ks c.ports)
+      let c = timed_at time (seat_of k) p in
+      then_so c (timed_in time ks) (timed_at_so time (seat_of k) p) (timed_in_so time ks c.ports)
 
   dropped_of_so : (apps : List ℕ) (p : PlainPorts) → Each (dropped_of apps p).events
   dropped_of_so [] p = tt
@@ -211,11 +214,11 @@ module _ (P : Event → Type 0) (lost : (reason : Discard) → P (event.Discarde
       then_so c (λ q. dropped_of (range_with_len 0 q.conns.apps) q) (timed_in_so time (range_with_len 0 (p.conns.apps * SLOTS)) p) (dropped_of_so (range_with_len 0 c.ports.conns.apps) c.ports)
 
   -- a packet was delivered
-  delivered_so : (time app slot : ℕ) (p : PlainPorts) → Each (delivered time app slot p).events
-  delivered_so time app slot p =
-      let r = machine_at p app slot in
-      let c = went r.state machine_why.Reset app slot (delivering time r) p in
-      then_so c (dropped app) (went_lost r.state machine_why.Reset app slot (delivering time r) p (ways-not _ (delivering time r) (ways-reset r.reset_at time _))) (dropped_so app c.ports)
+  delivered_so : (time : ℕ) (seat : Seat) (p : PlainPorts) → Each (delivered time seat p).events
+  delivered_so time seat p =
+      let r = machine_at p seat in
+      let c = went r.state machine_why.Reset seat (delivering time r) p in
+      then_so c (dropped seat.app) (went_lost r.state machine_why.Reset seat (delivering time r) p (ways-not _ (delivering time r) (ways-reset r.reset_at time _))) (dropped_so seat.app c.ports)
 
   -- a packet is handed to a reliable connection
   back_so : (back : Option PlainBuffer) (stray : Bool) (p : PlainPorts) → Each (back_by back stray p).events
@@ -227,19 +230,19 @@ module _ (P : Event → Type 0) (lost : (reason : Discard) → P (event.Discarde
   abbrev looked_at : ℕ → ℕ → PlainPorts → Came
   looked_at app time p = and_then (dropped app p) (λ q. come (settled time app q))
 
-  handing_so : (p : PlainPorts) (app slot : ℕ) (h : RdpHead) (b : Content) (time : ℕ) → (IsEarly (machine_at p app slot).state → (nth : ℕ) (peer : Option (ℕ × ℕ)) → P (event.Opened app slot (Some nth) peer))
-      → P (handing_event (machine_at p app slot) b.trace.tag) → Each (handing p app slot h b time).events
-  handing_so p app slot h b time opens hands =
-      let r = machine_at p app slot in
+  handing_so : (p : PlainPorts) (seat : Seat) (h : RdpHead) (b : Content) (time : ℕ) → (IsEarly (machine_at p seat).state → (nth : ℕ) (peer : Option (ℕ × ℕ)) → P (event.Opened seat.app seat.slot (Some nth) peer))
+      → P (handing_event (machine_at p seat) b.trace.tag) → Each (handing p seat h b time).events
+  handing_so p seat h b time opens hands =
+      let r = machine_at p seat in
       let row = row_of r h b.payload in
-      let new = machine_handed h b.trace.tag (anywhere b) time r in
+      let new = after_packet h b.trace.tag (anywhere b) time r in
       let back = back_by (back_of row (anywhere b)) (is_stray row) p in
-      let step = went r.state machine_why.Reset app slot new in
-      let c = where_machine (has_machine p app slot) step p in (
+      let step = went r.state machine_why.Reset seat new in
+      let c = where_machine (has_machine p seat) step p in (
         hands,
-        then_so back (λ q. and_then (where_machine (has_machine q app slot) step q) (looked_at app time)) (back_so (back_of row (anywhere b)) (is_stray row) p)
-            (then_so c (looked_at app time) (where_so (has_machine p app slot) step p (went_so r.state machine_why.Reset app slot new p (λ o. opens (opens-early r.state new.state o))))
-            (then_so (dropped app c.ports) (λ q. come (settled time app q)) (dropped_so app c.ports) tt)),
+        then_so back (λ q. and_then (where_machine (has_machine q seat) step q) (looked_at seat.app time)) (back_so (back_of row (anywhere b)) (is_stray row) p)
+            (then_so c (looked_at seat.app time) (where_so (has_machine p seat) step p (went_so r.state machine_why.Reset seat new p (λ o. opens (opens-early r.state new.state o))))
+            (then_so (dropped seat.app c.ports) (λ q. come (settled time seat.app q)) (dropped_so seat.app c.ports) tt)),
       )
 
   -- a packet of the node is sent
@@ -252,28 +255,29 @@ module _ (P : Event → Type 0) (lost : (reason : Discard) → P (event.Discarde
   sent_so f s b = let to = (header_at b.header).dst in sent_by_so (to == f.addr) (route_of s.routes to) s b
 
   -- one of an application, on its slot
-  submitting_so : (x : MachineState) (p : PlainPorts) (app slot : ℕ) (b : Content) (time : ℕ) → ((ordinal : ℕ) → P (event.Sent slot ordinal)) → Each (submitting_in x p app slot b time).events
-  submitting_so state.Open p app slot b time sends = (sends (terms_at p app slot).ordinal, tt)
-  submitting_so state.SynSent p app slot b time sends = (lost why.NoConn, tt)
-  submitting_so state.SynRcvd p app slot b time sends = (lost why.NoConn, tt)
-  submitting_so state.CloseWait p app slot b time sends = (lost why.NoConn, tt)
-  submitting_so state.Closed p app slot b time sends = (lost why.NoConn, tt)
+  submitting_so : (x : MachineState) (p : PlainPorts) (seat : Seat) (b : Content) (time : ℕ) → ((ordinal : ℕ) → P (event.Sent seat.slot ordinal)) → Each (submitting_in x p seat b time).events
+  submitting_so state.Open p seat b time sends = (sends (terms_at p seat).ordinal, tt)
+  submitting_so state.SynSent p seat b time sends = (lost why.NoConn, tt)
+  submitting_so state.SynRcvd p seat b time sends = (lost why.NoConn, tt)
+  submitting_so state.CloseWait p seat b time sends = (lost why.NoConn, tt)
+  submitting_so state.Closed p seat b time sends = (lost why.NoConn, tt)
 
-  on_connection_so : (reliable : Bool) (c : Connection) (f : Facts) (s : State) (app slot time : ℕ) (b : Content) → ((ordinal : ℕ) → P (event.Sent slot ordinal)) → Each (on_connection reliable c f s app slot time b).events
-  on_connection_so false c f s app slot time b sends = (sends (terms_at s.ports app slot).ordinal, sent_so f s (addressed f c (terms_at s.ports app slot) b))
-  on_connection_so true c f s app slot time b sends = submitting_so (machine_at s.ports app slot).state s.ports app slot b time sends
+  on_connection_so : (reliable : Bool) (c : Connection) (f : Facts) (s : State) (seat : Seat) (time : ℕ) (b : Content) → ((ordinal : ℕ) → P (event.Sent seat.slot ordinal))
+      → Each (if reliable then ported s (submitting s.ports seat b time) else sent_on c (router f s) seat b).events
+  on_connection_so false c f s seat time b sends = (sends (terms_at s.ports seat).ordinal, sent_so f s (addressed f c (terms_at s.ports seat) b))
+  on_connection_so true c f s seat time b sends = submitting_so (machine_at s.ports seat).state s.ports seat b time sends
 
-  by_slot_so : (x : Slot) (f : Facts) (s : State) (app slot time : ℕ) (b : Content) → ((ordinal : ℕ) → P (event.Sent slot ordinal)) → Each (by_slot x f s app slot time b).events
-  by_slot_so has.Free f s app slot time b sends = (lost why.NoConn, tt)
-  by_slot_so has.Held f s app slot time b sends = (lost why.NoConn, tt)
-  by_slot_so (has.Open c) f s app slot time b sends = on_connection_so (is_reliable (terms_at s.ports app slot).flags) c f s app slot time b sends
+  by_slot_so : (x : Slot) (f : Facts) (s : State) (seat : Seat) (time : ℕ) (b : Content) → ((ordinal : ℕ) → P (event.Sent seat.slot ordinal)) → Each (by_slot x (router f s) seat time b).events
+  by_slot_so has.Free f s seat time b sends = (lost why.NoConn, tt)
+  by_slot_so has.Held f s seat time b sends = (lost why.NoConn, tt)
+  by_slot_so (has.Open c) f s seat time b sends = on_connection_so (is_reliable (terms_at s.ports seat).flags) c f s seat time b sends
 
-  by_mark_so : (unmarked : Bool) (f : Facts) (s : State) (app mark time : ℕ) (b : Content) → ((ordinal : ℕ) → P (event.Sent mark ordinal)) → Each (by_mark unmarked f s app mark time b).events
-  by_mark_so true f s app mark time b sends = sent_so f s b
-  by_mark_so false f s app mark time b sends = by_slot_so (slot_at s.ports.conns app mark) f s app mark time b sends
+  by_mark_so : (unmarked : Bool) (f : Facts) (s : State) (seat : Seat) (time : ℕ) (b : Content) → ((ordinal : ℕ) → P (event.Sent seat.slot ordinal)) → Each (by_mark unmarked (router f s) seat time b).events
+  by_mark_so true f s seat time b sends = sent_so f s b
+  by_mark_so false f s seat time b sends = by_slot_so (slot_at s.ports.conns seat) f s seat time b sends
 
   pub packet_tells : (f : Facts) (s : State) (time app mark : ℕ) (b : Content) → ((ordinal : ℕ) → P (event.Sent mark ordinal)) → Each (served f s time app (item.Packet mark b)).events
-  packet_tells f s time app mark b sends = by_mark_so (mark == UNMARKED) f s app mark time b sends
+  packet_tells f s time app mark b sends = by_mark_so (mark == UNMARKED) f s (seat app mark) time b sends
 
 -- so timers tell of nothing that was sent
 abbrev IsUnsent : Event → Type 0
@@ -289,30 +293,30 @@ timed_unsent time p = each_unsent (ports_timed time p).events (timed_tells IsUns
 
 -- ---- what an application asks, and what a machine makes
 
-joined_calm : (reliable : Bool) (o : Origin) (p : PlainPorts) (app : ℕ) (r : Request) (own time : ℕ) → AreCalm (joined reliable o p app r own time).events
-joined_calm false o p app r own time = (refl, tt)
-joined_calm true o p app r own time = tt
+joined_calm : (reliable : Bool) (o : OwnFlows) (p : PlainPorts) (r : Request) (own time : ℕ) → AreCalm (if reliable then asking o r.seat time (linked wish.Connection p r own) else plain p r own).events
+joined_calm false o p r own time = (refl, tt)
+joined_calm true o p r own time = tt
 
-connect_calm : (x : Slot) (refuses : Bool) (own : Option ℕ) (o : Origin) (p : PlainPorts) (app : ℕ) (r : Request) (time : ℕ) → AreCalm (connect_by x refuses own o p app r time).events
-connect_calm has.Free true own o p app r time = tt
-connect_calm has.Free false (Some own) o p app r time = joined_calm (is_reliable r.flags) o p app r own time
-connect_calm has.Free false None o p app r time = tt
-connect_calm has.Held refuses own o p app r time = tt
-connect_calm (has.Open c) refuses own o p app r time = tt
+connect_calm : (free refuses : Bool) (own : Option ℕ) (o : OwnFlows) (p : PlainPorts) (r : Request) (time : ℕ)
+    → AreCalm (if free then (if refuses then unjoined p r reason.PortBusy else unwrap_or (option_map (λ own. joined o p r own time) own) (come p)) else unjoined p r reason.Busy).events
+connect_calm true true own o p r time = tt
+connect_calm true false (Some own) o p r time = joined_calm (is_reliable r.flags) o p r own time
+connect_calm true false None o p r time = tt
+connect_calm false refuses own o p r time = tt
 
-close_calm : (closing : Bool) (p : PlainPorts) (app slot time : ℕ) → AreCalm (close_by closing p app slot time).events
-close_calm true p app slot time = tt
-close_calm false p app slot time =
-    let r = closing time (machine_at p app slot) in
-    let q = held_by (is_free (slot_at p.conns app slot)) p app slot in
-    then_so IsCalm lost_calm (where_machine (has_machine p app slot) (stepped app slot r) q) (λ q. come (ending_in r.state app slot q)) (where_so IsCalm lost_calm (has_machine p app slot) (stepped app slot r) q tt) tt
+close_calm : (closing : Bool) (p : PlainPorts) (seat : Seat) (time : ℕ) → AreCalm (close_by closing p seat time).events
+close_calm true p seat time = tt
+close_calm false p seat time =
+    let r = closing time (machine_at p seat) in
+    let q = held_by (is_free (slot_at p.conns seat)) p seat in
+    then_so IsCalm lost_calm (where_machine (has_machine p seat) (stepped seat r) q) (λ q. come (ending_in r.state seat q)) (where_so IsCalm lost_calm (has_machine p seat) (stepped seat r) q tt) tt
 
 requested_calm : (f : Facts) (s : State) (app time : ℕ) (n : Note) → AreCalm (requested f s app time n).events
 requested_calm f s app time (note.Bind port need) = tt
 requested_calm f s app time (note.Connect slot dest port prio flags from) =
-    connect_calm (slot_at s.ports.conns app slot) (is_refused s.ports.conns dest from) (own_port_of s.ports.conns dest from) (origin_of f) s.ports app
-    (record { slot = slot; dest = dest; port = port; prio = prio; flags = flags; from = from }) time
-requested_calm f s app time (note.Close slot) = close_calm (is_closing (terms_at s.ports app slot).wish) s.ports app slot time
+    connect_calm (is_free (slot_at s.ports.conns (seat app slot))) (is_refused s.ports.conns dest from) (own_port_of s.ports.conns dest from) (flows_of f) s.ports
+    (record { seat = seat app slot; dest = dest; port = port; prio = prio; flags = flags; from = from }) time
+requested_calm f s app time (note.Close slot) = close_calm (is_closing (terms_at s.ports (seat app slot)).wish) s.ports (seat app slot) time
 requested_calm f s app time _ = tt
 
 served_calm : (f : Facts) (s : State) (time app : ℕ) (i : ItemShown) → AreCalm (served f s time app i).events
@@ -329,21 +333,21 @@ answered_calm : (owed : List Owed) (p : PlainPorts) → AreCalm (answered_by owe
 answered_calm [] p = tt
 answered_calm (o ∷ os) p = ended_calm o.note o.app (record p { owed = os })
 
-made_calm : (x : Slot) (j : Job) (f : Facts) (s : State) (app slot time : ℕ) (b : Content) → AreCalm (made_on x j f s app slot time b).events
-made_calm has.Free j f s app slot time b = tt
-made_calm has.Held j f s app slot time b = tt
-made_calm (has.Open c) j f s app slot time b = sent_by_so IsCalm lost_calm _ _ _ _
+made_calm : (x : Slot) (owed : Seat × Job) (r : Router) (time : ℕ) (b : Content) → AreCalm (made_on x owed r time b).events
+made_calm has.Free owed r time b = tt
+made_calm has.Held owed r time b = tt
+made_calm (has.Open c) owed r time b = sent_by_so IsCalm lost_calm _ _ _ _
 
 -- ---- a packet of no connection
 
-accepting_calm : (o : Option ℕ) (s : State) (app : ℕ) (p : Arrival) → AreCalm (accepting o s app p).events
-accepting_calm None s app p = (tt, tt)
-accepting_calm (Some slot) s app p = (refl, tt)
+accepting_calm : (free : Option Seat) (s : State) (p : Arrival) → AreCalm (accepting free s p).events
+accepting_calm None s p = (tt, tt)
+accepting_calm (Some seat) s p = (refl, tt)
 
-inviting_calm : (r : Result Invitation Discard) (o : Option ℕ) (f : Facts) (s : State) (app time : ℕ) (p : Arrival) → AreCalm (inviting r o f s app time p).events
-inviting_calm (Err reason) o f s app time p = (tt, tt)
-inviting_calm (Ok i) None f s app time p = (tt, tt)
-inviting_calm (Ok i) (Some slot) f s app time p = tt
+inviting_calm : (i : Result Invitation Discard) (free : Option Seat) (r : Router) (time : ℕ) (p : Arrival) → AreCalm (inviting i free r time p).events
+inviting_calm (Err reason) free r time p = (tt, tt)
+inviting_calm (Ok i) None r time p = (tt, tt)
+inviting_calm (Ok i) (Some seat) r time p = tt
 
 -- of two, the one that a test chooses
 chosen_calm : (b : Bool) (t u : Told) → AreCalm t.events → AreCalm u.events → AreCalm (if b then t else u).events
@@ -352,9 +356,9 @@ chosen_calm false t u one other = other
 
 opening_calm : (app : ℕ) (f : Facts) (s : State) (time : ℕ) (p : Arrival) → AreCalm (opening app f s time p).events
 opening_calm app f s time p =
-    let free = first_free s.ports.conns app in
+    let free = free_seat s.ports.conns app in
     let i = invitation_of p.buffer in
-    chosen_calm (is_reliable p.head.flags.0) (inviting i free f s app time p) (accepting free s app p) (inviting_calm i free f s app time p) (accepting_calm free s app p)
+    chosen_calm (is_reliable p.head.flags.0) (inviting i free (router f s) time p) (accepting free s p) (inviting_calm i free (router f s) time p) (accepting_calm free s p)
 
 by_socket_calm : (owner : Option (ℕ × ℕ)) (f : Facts) (s : State) (time : ℕ) (p : Arrival) (next : Arrival → Told) → AreCalm (next p).events → AreCalm (by_socket owner f s time p >>= next).events
 by_socket_calm None f s time p next rest = rest
@@ -396,18 +400,17 @@ module _ (f : Facts) (s : State) (time mark : ℕ) (b : Content) where
   abbrev at_port : List ℕ → Arrival
   at_port bytes = record { mark = mark; head = header_at b.header; buffer = record b { payload = bytes } }
 
-  to_machine_shows : (o : Option (List ℕ × RdpHead)) (app slot : ℕ) (bytes : List ℕ) → parted bytes ≡ o → is_here f.addr (header_at b.header) ≡ true → unwrapped (is_checked (header_at b.header)) b.payload ≡ Some bytes
-      → found s.ports.conns (connection_of (header_at b.header)) ≡ Some (app, slot) → is_reliable (header_at b.header).flags.0 ≡ true → is_reliable (terms_at s.ports app slot).flags ≡ true → Shows (to_machine o s app slot time (at_port bytes))
-  to_machine_shows None app slot bytes q here un at reliable kind = (tt, tt)
-  to_machine_shows (Some read) app slot bytes q here un at reliable kind =
-      handing_so OfPopped (λ reason. tt) s.ports app slot read.1 (record b { payload = read.0 }) time (λ early nth peer. inr early) (record {
+  to_machine_shows : (o : Option (List ℕ × RdpHead)) (seat : Seat) (bytes : List ℕ) → parted bytes ≡ o → is_here f.addr (header_at b.header) ≡ true → unwrapped (is_checked (header_at b.header)) b.payload ≡ Some bytes
+      → found s.ports.conns (connection_of (header_at b.header)) ≡ Some seat → is_reliable (header_at b.header).flags.0 ≡ true → is_reliable (terms_at s.ports seat).flags ≡ true → Shows (to_machine o s seat time (at_port bytes))
+  to_machine_shows None seat bytes q here un at reliable kind = (tt, tt)
+  to_machine_shows (Some read) seat bytes q here un at reliable kind =
+      handing_so OfPopped (λ reason. tt) s.ports seat read.1 (record b { payload = read.0 }) time (λ early nth peer. inr early) (record {
         mark = mark;
         packet = b;
         asked = refl;
         answered = refl;
         handing = record {
-          app = app;
-          slot = slot;
+          seat = seat;
           bytes = bytes;
           parts = read;
           read = record { here = here; reliable = reliable; is_unwrapped = un; is_parted = q };
@@ -421,27 +424,27 @@ module _ (f : Facts) (s : State) (time mark : ℕ) (b : Content) where
   not_false true e = refl
   not_false false e = absurd cc
 
-  to_connection_shows : (reliable : Bool) (app slot : ℕ) (bytes : List ℕ) → is_reliable (header_at b.header).flags.0 ≡ reliable → is_here f.addr (header_at b.header) ≡ true → unwrapped (is_checked (header_at b.header)) b.payload ≡ Some bytes
-      → found s.ports.conns (connection_of (header_at b.header)) ≡ Some (app, slot) → differs reliable (is_reliable (terms_at s.ports app slot).flags) ≡ false
-      → Shows (if reliable then to_machine (parted bytes) s app slot time (at_port bytes) else leaving s (to_slot app slot (record b { payload = bytes })))
-  to_connection_shows false app slot bytes e here un at same = tt
-  to_connection_shows true app slot bytes e here un at same = to_machine_shows (parted bytes) app slot bytes refl here un at e (not_false (is_reliable (terms_at s.ports app slot).flags) same)
+  to_connection_shows : (reliable : Bool) (seat : Seat) (bytes : List ℕ) → is_reliable (header_at b.header).flags.0 ≡ reliable → is_here f.addr (header_at b.header) ≡ true → unwrapped (is_checked (header_at b.header)) b.payload ≡ Some bytes
+      → found s.ports.conns (connection_of (header_at b.header)) ≡ Some seat → differs reliable (is_reliable (terms_at s.ports seat).flags) ≡ false
+      → Shows (if reliable then to_machine (parted bytes) s seat time (at_port bytes) else leaving s (to_slot seat (record b { payload = bytes })))
+  to_connection_shows false seat bytes e here un at same = tt
+  to_connection_shows true seat bytes e here un at same = to_machine_shows (parted bytes) seat bytes refl here un at e (not_false (is_reliable (terms_at s.ports seat).flags) same)
 
-  at_connection_shows : (mixed lacking : Bool) (at : ℕ × ℕ) (bytes : List ℕ) → is_mixed s at (at_port bytes) ≡ mixed → (is_mixed s at (at_port bytes) ≡ false → Shows (to_connection s at.0 at.1 time (at_port bytes)))
-      → Shows (if mixed then discarded s why.Mixed (record b { payload = bytes }) else if lacking then discarded s why.Required (record b { payload = bytes }) else to_connection s at.0 at.1 time (at_port bytes))
+  at_connection_shows : (mixed lacking : Bool) (at : Seat) (bytes : List ℕ) → is_mixed s at (at_port bytes) ≡ mixed → (is_mixed s at (at_port bytes) ≡ false → Shows (to_connection s at time (at_port bytes)))
+      → Shows (if mixed then discarded s why.Mixed (record b { payload = bytes }) else if lacking then discarded s why.Required (record b { payload = bytes }) else to_connection s at time (at_port bytes))
   at_connection_shows true lacking at bytes e rest = (tt, tt)
   at_connection_shows false true at bytes e rest = (tt, tt)
   at_connection_shows false false at bytes e rest = rest e
 
-  by_connection_shows : (at : Option (ℕ × ℕ)) (bytes : List ℕ) (next : Arrival → Told) → found s.ports.conns (connection_of (header_at b.header)) ≡ at
+  by_connection_shows : (at : Option Seat) (bytes : List ℕ) (next : Arrival → Told) → found s.ports.conns (connection_of (header_at b.header)) ≡ at
       → is_here f.addr (header_at b.header) ≡ true → unwrapped (is_checked (header_at b.header)) b.payload ≡ Some bytes → Shows (next (at_port bytes)) → Shows (by_connection at s time (at_port bytes) >>= next)
   by_connection_shows None bytes next e here un rest = rest
   by_connection_shows (Some at) bytes next e here un rest =
-      at_connection_shows (is_mixed s at (at_port bytes)) (is_lacking s (at_port bytes)) at bytes refl λ same. (to_connection_shows (is_reliable (header_at b.header).flags.0) at.0 at.1 bytes refl here un e same)
+      at_connection_shows (is_mixed s at (at_port bytes)) (is_lacking s (at_port bytes)) at bytes refl λ same. (to_connection_shows (is_reliable (header_at b.header).flags.0) at bytes refl here un e same)
 
   at_port_shows : (bytes : List ℕ) → is_here f.addr (header_at b.header) ≡ true → unwrapped (is_checked (header_at b.header)) b.payload ≡ Some bytes → Shows (heard_at_port f s time (at_port bytes))
   at_port_shows bytes here un =
-      by_connection_shows (slot_of s (at_port bytes)) bytes (λ q. heard_at_socket f s time q) refl here un
+      by_connection_shows (seat_for s (at_port bytes)) bytes (λ q. heard_at_socket f s time q) refl here un
       (AllByRecursion-map IsCalm OfPopped (heard_at_socket f s time (at_port bytes)).events (calm_tells f s.ports (op.Pop queue.Inbox) (answer.Popped (item.Packet mark b))) (at_socket_calm f s time (at_port bytes)))
 
   by_checksum_shows : (checked : Bool) (o : Option (List ℕ)) (next : Arrival → Told) → payload_of b.payload ≡ o → ((bytes : List ℕ) → unwrapped checked b.payload ≡ Some bytes → Shows (next (at_port bytes)))
@@ -513,16 +516,16 @@ plan_tells (plan.Serve k) f s time a fits =
 plan_tells (plan.Reply k) f s time a fits =
     let t : State = at_rest (asked_by f s time (plan.Reply k)) in
     quietly (plan.Reply k) f s time a (pushed_calm (is_pushed a) _ _ (answered_calm t.ports.owed t.ports) (back_calm t (packet_in (item_in a))))
-plan_tells (plan.Tell app slot) f s time a fits =
-    let t : State = at_rest (asked_by f s time (plan.Tell app slot)) in
-    quietly (plan.Tell app slot) f s time a (pushed_calm (is_pushed a) _ _ tt (back_calm t (packet_in (item_in a))))
-plan_tells (plan.Deliver app slot) f s time a fits =
-    let t : State = at_rest (asked_by f s time (plan.Deliver app slot)) in
-    quietly (plan.Deliver app slot) f s time a (pushed_calm (is_pushed a) _ _ (delivered_so IsCalm lost_calm time app slot t.ports)
-    (brought_calm t (λ p. unchanged (with_ports t (kept_again app slot p.buffer t.ports))) (packet_in (item_in a)) (λ p. tt)))
-plan_tells (plan.Make app slot j) f s time a fits =
-    let t : State = at_rest (asked_by f s time (plan.Make app slot j)) in
-    quietly (plan.Make app slot j) f s time a (brought_calm t (made_on (slot_at t.ports.conns app slot) j f t app slot time) (buffer_in a) (λ b. made_calm (slot_at t.ports.conns app slot) j f t app slot time b))
+plan_tells (plan.Tell seat) f s time a fits =
+    let t : State = at_rest (asked_by f s time (plan.Tell seat)) in
+    quietly (plan.Tell seat) f s time a (pushed_calm (is_pushed a) _ _ tt (back_calm t (packet_in (item_in a))))
+plan_tells (plan.Deliver seat) f s time a fits =
+    let t : State = at_rest (asked_by f s time (plan.Deliver seat)) in
+    quietly (plan.Deliver seat) f s time a (pushed_calm (is_pushed a) _ _ (delivered_so IsCalm lost_calm time seat t.ports)
+    (brought_calm t (λ p. unchanged (with_ports t (kept_again seat p.buffer t.ports))) (packet_in (item_in a)) (λ p. tt)))
+plan_tells (plan.Make seat j) f s time a fits =
+    let t : State = at_rest (asked_by f s time (plan.Make seat j)) in
+    quietly (plan.Make seat j) f s time a (brought_calm t (made_on (slot_at t.ports.conns seat) (seat, j) (router f t) time) (buffer_in a) (λ b. made_calm (slot_at t.ports.conns seat) (seat, j) (router f t) time b))
 
 -- ---- a whole turn
 
@@ -533,9 +536,9 @@ until_early f s time (plan.Push q n) = refl
 until_early f s time plan.Hear = refl
 until_early f s time (plan.Serve k) = refl
 until_early f s time (plan.Reply k) = refl
-until_early f s time (plan.Tell app slot) = refl
-until_early f s time (plan.Deliver app slot) = refl
-until_early f s time (plan.Make app slot j) = refl
+until_early f s time (plan.Tell seat) = refl
+until_early f s time (plan.Deliver seat) = refl
+until_early f s time (plan.Make seat j) = refl
 
 -- what the turn's events are: those of its timers, then those of its plan
 pub events_are : (f : Facts) (s : State) (time : ℕ) (a : AnswerShown) (q : Plan) → plan_of f (timed s time) time ≡ q
@@ -554,3 +557,4 @@ entry_tells r e step =
     let first = timed_tells (Here (turn_of f t e.time q).asks) (λ reason. tt) e.time r.state.ports in
     let all = AllByRecursion-append (Here (turn_of f t e.time q).asks) (ports_timed e.time r.state.ports).events ((turn_of f (at_rest (asked_by f t e.time q)) e.time q).told e.answer).events first (plan_tells q f t e.time e.answer step.fits) in
     subst (λ o. AllByRecursion (Here o) e.events.items) (sym step.op) (subst (AllByRecursion (Here (asks_at f r.state e.time))) (sym (step.events ∙ events_are f r.state e.time e.answer q refl)) all)
+

@@ -3,6 +3,8 @@ use Rattle.std.proofs.Common.{◌≡◌, ℕ, zero, suc, ◌+◌, ◌<◌, ◌�
 use Rattle.std.specs.Prelude.{⊤}
 use Rattle.std.specs.List.{AllByRecursion, slice_get}
 use Rattle.std.proofs.lemmas.List.{append-nil}
+use Rattle.csp_base.specs.Seat.{seat}
+use Rattle.csp_base.specs.declared.seat.Seat.{Seat}
 use Rattle.csp_buffer.specs.Content.{Content}
 use Rattle.csp_base.specs.declared.limits.TheConstants.{MAX_APPS, SLOTS}
 use Rattle.csp_log.specs.declared.entry.Entry.{Entry}
@@ -39,14 +41,14 @@ past es = past_of es no_past
 pub past_opened : (es : List Entry) (app : ℕ) → (past es).opened app ≡ openings app es
 past_opened es app = reads_opened es no_past app ∙ sym (openings_are app es)
 
-pub past_sent : (es : List Entry) (app slot ordinal : ℕ) → (past es).sent app slot ordinal ≡ sent app slot ordinal es
-past_sent es app slot ordinal = reads_sent es no_past app slot ordinal ∙ sym (payloads_are way.Sent app slot ordinal es)
+pub past_sent : (es : List Entry) (seat : Seat) (ordinal : ℕ) → (past es).sent seat ordinal ≡ sent seat ordinal es
+past_sent es seat ordinal = reads_sent es no_past seat ordinal ∙ sym (payloads_are way.Sent seat ordinal es)
 
-pub past_down : (es : List Entry) (app slot ordinal : ℕ) → (past es).down app slot ordinal ≡ delivered app slot ordinal es
-past_down es app slot ordinal = reads_down es no_past app slot ordinal ∙ sym (delivered_are app slot ordinal es)
+pub past_down : (es : List Entry) (seat : Seat) (ordinal : ℕ) → (past es).down seat ordinal ≡ delivered seat ordinal es
+past_down es seat ordinal = reads_down es no_past seat ordinal ∙ sym (delivered_are seat ordinal es)
 
 pub part_all : (h : Past) → IsPart h h
-part_all h = record { sent = λ app slot ordinal. record { rest = []; whole = append-nil (h.sent app slot ordinal) }; opened = λ app. record { rest = []; whole = append-nil (h.opened app) } }
+part_all h = record { sent = λ seat ordinal. record { rest = []; whole = append-nil (h.sent seat ordinal) }; opened = λ app. record { rest = []; whole = append-nil (h.opened app) } }
 
 -- ---- what was got, entry by entry
 get_past : (xs ys : List ItemShown) (i : ℕ) → slice_get (xs ++ ys) (length xs + i) ≡ slice_get ys i
@@ -98,10 +100,10 @@ each_comes g any (e ∷ es) = (comes_any g any e.op e.answer, each_comes g any e
 -- before its first turn
 pub opening_stands : (g : Aim) (f : Facts) (es : List Entry) → IsAim g f (past es) → f.apps ≤ MAX_APPS → Stands g f no_past (ports_of f.apps) None
 opening_stands g f es k few = record {
-  numbering = record { made = 0; home = λ n. (0, 0, 0) };
-  books = λ app slot. blank;
-  good = k.ports.opens f.apps (λ n. (0, 0, 0)) few;
-  tells = tells_nothing g.over f.apps (record { made = 0; home = λ n. (0, 0, 0) });
+  numbering = record { made = 0; home = λ n. (seat 0 0, 0) };
+  books = λ seat. blank;
+  good = k.ports.opens f.apps (λ n. (seat 0 0, 0)) few;
+  tells = tells_nothing g.over f.apps (record { made = 0; home = λ n. (seat 0 0, 0) });
   apps = refl;
   out = tt;
 }
@@ -112,15 +114,15 @@ run_known g f routes es k log hears comes fresh found =
     run_stands g f (past es) k es 0 no_past (opening_state f.apps routes) log.run found (all_come g es log.comes (heard_all g es hears comes) fresh) (part_all (past es)) (opening_stands g f es k log.few)
 
 -- of each opening what is to be known is known
-pub opening_known : (g : Aim) (f : Facts) (es : List Entry) → IsAim g f (past es) → (r : IsRunSo g f no_past es) → (app nth : ℕ) (x : Opening) → IsFlowOf es app nth x → g.over r.stands.numbering app x (delivered app x.slot x.ordinal es)
+pub opening_known : (g : Aim) (f : Facts) (es : List Entry) → IsAim g f (past es) → (r : IsRunSo g f no_past es) → (app nth : ℕ) (x : Opening) → IsFlowOf es app nth x → g.over r.stands.numbering app x (delivered (seat app x.slot) x.ordinal es)
 opening_known g f es k r app nth x is =
     let h : Past = past es in
     let w : Stands g f h r.ports r.leaves = r.stands in
     let there : slice_get (h.opened app) is.at ≡ Some x = ap (λ xs. slice_get xs is.at) (past_opened es app) ∙ is.there in
     let i = all_at _ (h.opened app) is.at x (w.tells.told app) there in
     let few : app < r.ports.conns.apps = subst (λ n. app < n) (sym w.apps) i.app_there in
-    subst (g.over w.numbering app x) (past_down es app x.slot x.ordinal)
-    (over_now g.over f.apps w.numbering h w.books app x.slot x (λ how e. over_present g f h k h w.numbering w.books r.ports app x.slot how w.good few i.slot_there e) (w.tells.down app x.slot) refl i.reached i.present i.over)
+    subst (g.over w.numbering app x) (past_down es (seat app x.slot) x.ordinal)
+    (over_now g.over f.apps w.numbering h w.books (seat app x.slot) x (λ how e. over_present g f h k h w.numbering w.books r.ports (seat app x.slot) how w.good few i.slot_there e) (w.tells.down (seat app x.slot)) refl i.reached i.present i.over)
 
 -- and its application and its slot are there
 pub opening_placed : (g : Aim) (f : Facts) (es : List Entry) → IsRunSo g f no_past es → (app at : ℕ) (x : Opening) → slice_get (openings app es) at ≡ Some x → (app < f.apps) × (x.slot < SLOTS)
@@ -130,3 +132,4 @@ opening_placed g f es r app at x e =
     let there : slice_get (h.opened app) at ≡ Some x = ap (λ xs. slice_get xs at) (past_opened es app) ∙ e in
     let i = all_at _ (h.opened app) at x (w.tells.told app) there in
     (i.app_there, i.slot_there)
+

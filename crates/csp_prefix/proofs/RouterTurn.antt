@@ -4,6 +4,8 @@ use Rattle.std.specs.Prelude.{is_some, ⊤}
 use Rattle.std.specs.List.{AllByRecursion}
 use Rattle.std.proofs.lemmas.Bool.{eqb-false, leb-true}
 use Rattle.std.proofs.lemmas.List.{append-nil, append_assoc}
+use Rattle.csp_base.specs.Seat.{seat}
+use Rattle.csp_base.specs.declared.seat.Seat.{Seat}
 use Rattle.csp_buffer.specs.Content.{Content}
 use Rattle.csp_buffer.specs.PlainBuffer.{PlainBuffer}
 use Rattle.csp_base.specs.declared.limits.TheConstants.{SLOTS}
@@ -41,7 +43,7 @@ use Rattle.csp_record.specs.Payloads.{carried, told_on}
 use Rattle.csp_record.specs.declared.payloads.Transfer.TheVariants as way
 use Rattle.csp_stack.specs.Counting.{came_in, was_full}
 use Rattle.csp_stack.specs.Readings.{buffer_in}
-use Rattle.csp_stack.specs.Router.{Facts, Leaving, State, at_rest}
+use Rattle.csp_stack.specs.Router.{Facts, Leaving, State, at_rest, router}
 use Rattle.csp_stack.specs.Rules.{Arrival, addressed, arrival, heard, made_on, packet_in, sent}
 use Rattle.csp_stack.specs.Sources.{circle, has_work, place_with_work, source_at}
 use Rattle.csp_stack.specs.Told.{Told, kept}
@@ -54,7 +56,7 @@ use Rattle.csp_prefix.specs.Ports.{AreGood, Answers, with_book, with_down}
 use Rattle.csp_prefix.specs.Prefix.{IsBeginning}
 use Rattle.csp_prefix.specs.Routers.{ComesSo}
 use Rattle.csp_prefix.specs.Slots.{blank}
-use Rattle.csp_prefix.proofs.RouterBooks.{Past, down_on, freed_on, no_openings, no_openings_of, ordinals_freed, past_after, past_same, tells_down, tells_freed, with_openings}
+use Rattle.csp_prefix.proofs.RouterBooks.{Past, one_down, freed_on, no_openings, no_openings_of, ordinals_freed, past_after, past_same, tells_down, tells_freed, with_openings}
 use Rattle.csp_prefix.proofs.RouterEntry.{IsQuiet, none_on, quiet_entry, split_entry}
 use Rattle.csp_prefix.proofs.RouterHeard.{Quietly, stands_heard, stands_sent}
 use Rattle.csp_prefix.proofs.RouterPlans.{IsTask, deliver_job, found_passes, make_job, serves_free, task_there}
@@ -78,60 +80,60 @@ beginning_before : {X : Type 0} (xs ys zs : List X) → IsBeginning (xs ++ ys) z
 beginning_before xs ys zs b = record { rest = ys ++ b.rest; whole = sym (append_assoc xs ys b.rest) ∙ b.whole }
 
 pub part_before : (o : OpShown) (a : AnswerShown) (es : List Event) (h whole : Past) → IsPart (past_after o a es h) whole → IsPart h whole
-part_before o a es h whole p = record { sent = λ app slot ordinal. beginning_before (h.sent app slot ordinal) _ _ (p.sent app slot ordinal); opened = λ app. beginning_before (h.opened app) _ _ (p.opened app) }
+part_before o a es h whole p = record { sent = λ seat ordinal. beginning_before (h.sent seat ordinal) _ _ (p.sent seat ordinal); opened = λ app. beginning_before (h.opened app) _ _ (p.opened app) }
 
 -- ---- entries of turns that push or are given
 quiet_giving : (trash : List Content) (a : AnswerShown) (es : List Event) → IsQuiet (giving trash) a es
-quiet_giving [] a es = record { free = λ app s. refl; sent = λ app s. refl; down = λ app s. refl }
-quiet_giving (b ∷ bs) a es = record { free = λ app s. refl; sent = λ app s. refl; down = λ app s. refl }
+quiet_giving [] a es = record { free = λ a. refl; sent = λ a. refl; down = λ a. refl }
+quiet_giving (b ∷ bs) a es = record { free = λ a. refl; sent = λ a. refl; down = λ a. refl }
 
 quiet_take : (a : AnswerShown) (es : List Event) → IsQuiet op.Take a es
-quiet_take a es = record { free = λ app s. refl; sent = λ app s. refl; down = λ app s. refl }
+quiet_take a es = record { free = λ a. refl; sent = λ a. refl; down = λ a. refl }
 
 quiet_nothing : (a : AnswerShown) (es : List Event) → IsQuiet op.Nothing a es
-quiet_nothing a es = record { free = λ app s. refl; sent = λ app s. refl; down = λ app s. refl }
+quiet_nothing a es = record { free = λ a. refl; sent = λ a. refl; down = λ a. refl }
 
-free_full : (q : QueueId) (i j : ItemShown) (app slot : ℕ) → frees way.Sent app slot (note_moved (op.Push q i) (answer.Full j)) ≡ false
-free_full q (item.Packet mark b) j app slot = refl
-free_full q (item.Frame frame) j app slot = refl
-free_full q (item.Note n) j app slot = refl
+free_full : (q : QueueId) (i j : ItemShown) (seat : Seat) → frees way.Sent seat (note_moved (op.Push q i) (answer.Full j)) ≡ false
+free_full q (item.Packet mark b) j seat = refl
+free_full q (item.Frame frame) j seat = refl
+free_full q (item.Note n) j seat = refl
 
-sent_full : (q : QueueId) (i j : ItemShown) (app slot : ℕ) (es : List Event) → told_on way.Sent slot es (carried way.Sent app (moved_by (op.Push q i) (answer.Full j))) ≡ []
-sent_full q (item.Packet mark b) j app slot es = refl
-sent_full q (item.Frame frame) j app slot es = refl
-sent_full q (item.Note n) j app slot es = refl
+sent_full : (q : QueueId) (i j : ItemShown) (seat : Seat) (es : List Event) → told_on way.Sent seat.slot es (carried way.Sent seat.app (moved_by (op.Push q i) (answer.Full j))) ≡ []
+sent_full q (item.Packet mark b) j seat es = refl
+sent_full q (item.Frame frame) j seat es = refl
+sent_full q (item.Note n) j seat es = refl
 
-down_full : (q : QueueId) (i j : ItemShown) (app slot : ℕ) → delivered_by app slot (op.Push q i) (answer.Full j) ≡ []
-down_full queue.Inbox i j app slot = refl
-down_full (queue.Up k) i j app slot = refl
-down_full (queue.Down k) (item.Packet mark b) j app slot = refl
-down_full (queue.Down k) (item.Frame frame) j app slot = refl
-down_full (queue.Down k) (item.Note n) j app slot = refl
-down_full (queue.Out k) i j app slot = refl
-down_full (queue.Tx k) i j app slot = refl
-down_full (queue.Rx k) i j app slot = refl
+down_full : (q : QueueId) (i j : ItemShown) (seat : Seat) → delivered_by seat (op.Push q i) (answer.Full j) ≡ []
+down_full queue.Inbox i j seat = refl
+down_full (queue.Up k) i j seat = refl
+down_full (queue.Down k) (item.Packet mark b) j seat = refl
+down_full (queue.Down k) (item.Frame frame) j seat = refl
+down_full (queue.Down k) (item.Note n) j seat = refl
+down_full (queue.Out k) i j seat = refl
+down_full (queue.Tx k) i j seat = refl
+down_full (queue.Rx k) i j seat = refl
 
 quiet_full : (q : QueueId) (i j : ItemShown) (es : List Event) → IsQuiet (op.Push q i) (answer.Full j) es
-quiet_full q i j es = record { free = free_full q i j; sent = λ app s. sent_full q i j app s es; down = down_full q i j }
+quiet_full q i j es = record { free = free_full q i j; sent = λ a. sent_full q i j a es; down = down_full q i j }
 
 -- the push of a packet
-quiet_pushed : (q : QueueId) (mark : ℕ) (b : Content) (es : List Event) → ((app slot : ℕ) → delivered_by app slot (op.Push q (item.Packet mark b)) answer.Pushed ≡ []) → IsQuiet (op.Push q (item.Packet mark b)) answer.Pushed es
-quiet_pushed q mark b es none = record { free = λ app s. refl; sent = λ app s. refl; down = none }
+quiet_pushed : (q : QueueId) (mark : ℕ) (b : Content) (es : List Event) → ((seat : Seat) → delivered_by seat (op.Push q (item.Packet mark b)) answer.Pushed ≡ []) → IsQuiet (op.Push q (item.Packet mark b)) answer.Pushed es
+quiet_pushed q mark b es none = record { free = λ a. refl; sent = λ a. refl; down = none }
 
-down_entry : (app slot : ℕ) (b : Content) (es : List Event) (h : Past) → with_openings es (down_on app slot b.payload h) ≡ past_after (op.Push (queue.Down app) (item.Packet slot b)) answer.Pushed es h
-down_entry app slot b es h =
-    past_same (with_openings es (down_on app slot b.payload h)) (past_after (op.Push (queue.Down app) (item.Packet slot b)) answer.Pushed es h)
-    (λ a. refl) (λ a s o. sym (append-nil _) ∙ ap (λ xs. h.sent a s o ++ xs) (none_on (h.ends a s == o) [] refl)) (λ a s o. refl) (λ a s. refl) refl
+down_entry : (seat : Seat) (b : Content) (es : List Event) (h : Past) → with_openings es (one_down seat b.payload h) ≡ past_after (op.Push (queue.Down seat.app) (item.Packet seat.slot b)) answer.Pushed es h
+down_entry seat b es h =
+    past_same (with_openings es (one_down seat b.payload h)) (past_after (op.Push (queue.Down seat.app) (item.Packet seat.slot b)) answer.Pushed es h)
+    (λ a. refl) (λ a o. sym (append-nil _) ∙ ap (λ xs. h.sent a o ++ xs) (none_on (h.ends a == o) [] refl)) (λ a o. refl) (λ a. refl) refl
 
 -- the push of an answer
-quiet_answer : (app : ℕ) (n : Note) → ((a s : ℕ) → frees way.Sent a s (noted.Pushed (queue.Down app) n) ≡ false) → IsQuiet (op.Push (queue.Down app) (item.Note n)) answer.Pushed []
-quiet_answer app n none = record { free = none; sent = λ a s. refl; down = λ a s. refl }
+quiet_answer : (app : ℕ) (n : Note) → ((a : Seat) → frees way.Sent a (noted.Pushed (queue.Down app) n) ≡ false) → IsQuiet (op.Push (queue.Down app) (item.Note n)) answer.Pushed []
+quiet_answer app n none = record { free = none; sent = λ a. refl; down = λ a. refl }
 
-freed_entry : (app slot : ℕ) (h : Past) → freed_on app slot h ≡ past_after (op.Push (queue.Down app) (item.Note (note.Closed slot))) answer.Pushed [] h
-freed_entry app slot h =
-    past_same (freed_on app slot h) (past_after (op.Push (queue.Down app) (item.Note (note.Closed slot))) answer.Pushed [] h)
-    (λ a. sym (append-nil _)) (λ a s o. sym (append-nil _) ∙ ap (λ xs. h.sent a s o ++ xs) (none_on (h.ends a s == o) [] refl))
-    (λ a s o. sym (append-nil _) ∙ ap (λ xs. h.down a s o ++ xs) (none_on (h.ends a s == o) [] refl)) (λ a s. refl) refl
+freed_entry : (seat : Seat) (h : Past) → freed_on seat h ≡ past_after (op.Push (queue.Down seat.app) (item.Note (note.Closed seat.slot))) answer.Pushed [] h
+freed_entry seat h =
+    past_same (freed_on seat h) (past_after (op.Push (queue.Down seat.app) (item.Note (note.Closed seat.slot))) answer.Pushed [] h)
+    (λ a. sym (append-nil _)) (λ a o. sym (append-nil _) ∙ ap (λ xs. h.sent a o ++ xs) (none_on (h.ends a == o) [] refl))
+    (λ a o. sym (append-nil _) ∙ ap (λ xs. h.down a o ++ xs) (none_on (h.ends a == o) [] refl)) (λ a. refl) refl
 
 module _ (g : Aim) (f : Facts) (whole : Past) (k : IsAim g f whole) where
   abbrev after_told : State → ℕ → Plan → AnswerShown → Told
@@ -170,17 +172,17 @@ module _ (g : Aim) (f : Facts) (whole : Past) (k : IsAim g f whole) where
 
   push_so : (q : QueueId) (mark : ℕ) (b : Content) (h : Past) (p : PlainPorts) (w : Stands g f h p (Some (record { queue = q; mark = mark; buffer = b })))
       → Stands g f (past_after (op.Push q (item.Packet mark b)) answer.Pushed [] h) p None × PushedSo g (op.Push q (item.Packet mark b)) answer.Pushed
-  push_so queue.Inbox mark b h p w = (unmoved (op.Push queue.Inbox (item.Packet mark b)) answer.Pushed h p None (quiet_pushed queue.Inbox mark b [] (λ a s. refl)) (no_out h p _ w), w.out)
-  push_so (queue.Out x) mark b h p w = (unmoved (op.Push (queue.Out x) (item.Packet mark b)) answer.Pushed h p None (quiet_pushed (queue.Out x) mark b [] (λ a s. refl)) (no_out h p _ w), w.out)
-  push_so (queue.Up x) mark b h p w = (unmoved (op.Push (queue.Up x) (item.Packet mark b)) answer.Pushed h p None (quiet_pushed (queue.Up x) mark b [] (λ a s. refl)) (no_out h p _ w), tt)
-  push_so (queue.Tx x) mark b h p w = (unmoved (op.Push (queue.Tx x) (item.Packet mark b)) answer.Pushed h p None (quiet_pushed (queue.Tx x) mark b [] (λ a s. refl)) (no_out h p _ w), tt)
-  push_so (queue.Rx x) mark b h p w = (unmoved (op.Push (queue.Rx x) (item.Packet mark b)) answer.Pushed h p None (quiet_pushed (queue.Rx x) mark b [] (λ a s. refl)) (no_out h p _ w), tt)
+  push_so queue.Inbox mark b h p w = (unmoved (op.Push queue.Inbox (item.Packet mark b)) answer.Pushed h p None (quiet_pushed queue.Inbox mark b [] (λ a. refl)) (no_out h p _ w), w.out)
+  push_so (queue.Out x) mark b h p w = (unmoved (op.Push (queue.Out x) (item.Packet mark b)) answer.Pushed h p None (quiet_pushed (queue.Out x) mark b [] (λ a. refl)) (no_out h p _ w), w.out)
+  push_so (queue.Up x) mark b h p w = (unmoved (op.Push (queue.Up x) (item.Packet mark b)) answer.Pushed h p None (quiet_pushed (queue.Up x) mark b [] (λ a. refl)) (no_out h p _ w), tt)
+  push_so (queue.Tx x) mark b h p w = (unmoved (op.Push (queue.Tx x) (item.Packet mark b)) answer.Pushed h p None (quiet_pushed (queue.Tx x) mark b [] (λ a. refl)) (no_out h p _ w), tt)
+  push_so (queue.Rx x) mark b h p w = (unmoved (op.Push (queue.Rx x) (item.Packet mark b)) answer.Pushed h p None (quiet_pushed (queue.Rx x) mark b [] (λ a. refl)) (no_out h p _ w), tt)
   push_so (queue.Down app) mark b h p w = (
-    subst (λ x. Stands g f x p None) (no_openings (down_on app mark b.payload h) ∙ down_entry app mark b [] h) (record {
+    subst (λ x. Stands g f x p None) (no_openings (one_down (seat app mark) b.payload h) ∙ down_entry (seat app mark) b [] h) (record {
       numbering = w.numbering;
-      books = with_down app mark b.payload w.books;
-      good = good_plain g f whole k w.numbering h.ends w.books p app mark (record (w.books app mark) { down = (w.books app mark).down ++ b.payload ∷ [] }) w.out.2 refl w.good;
-      tells = tells_down g.over f.apps w.numbering h w.books app mark b.payload w.tells;
+      books = with_down (seat app mark) b.payload w.books;
+      good = good_plain g f whole k w.numbering h.ends w.books p (seat app mark) (record (w.books (seat app mark)) { down = (w.books (seat app mark)).down ++ b.payload ∷ [] }) w.out.2 refl w.good;
+      tells = tells_down g.over f.apps w.numbering h w.books (seat app mark) b.payload w.tells;
       apps = w.apps;
       out = tt;
     }),
@@ -226,15 +228,15 @@ module _ (g : Aim) (f : Facts) (whole : Past) (k : IsAim g f whole) where
   turn_hear : (h : Past) (s : State) (time : ℕ) (a : AnswerShown) → Stands g f h s.ports s.out → Turns h s time plan.Hear a
   turn_hear h s time (answer.Popped (item.Packet mark b)) w = λ fits comes hears part fresh.
       let t = heard f (came_in (at_rest (asked_by f s time plan.Hear)) mark b) time (arrival mark b) in (
-        quietly (op.Pop queue.Inbox) (answer.Popped (item.Packet mark b)) h t (record { free = λ app s. refl; sent = λ app s. refl; down = λ app s. refl })
+        quietly (op.Pop queue.Inbox) (answer.Popped (item.Packet mark b)) h t (record { free = λ a. refl; sent = λ a. refl; down = λ a. refl })
             (stands_heard g f whole k h (came_in (at_rest (asked_by f s time plan.Hear)) mark b) time mark b hears w) fresh,
         tt,
       )
   turn_hear h s time (answer.Popped (item.Frame frame)) w = λ fits comes hears part fresh.
-      (unmoved (op.Pop queue.Inbox) (answer.Popped (item.Frame frame)) h s.ports s.out (record { free = λ app s. refl; sent = λ app s. refl; down = λ app s. refl }) w, tt)
+      (unmoved (op.Pop queue.Inbox) (answer.Popped (item.Frame frame)) h s.ports s.out (record { free = λ a. refl; sent = λ a. refl; down = λ a. refl }) w, tt)
   turn_hear h s time (answer.Popped (item.Note n)) w = λ fits comes hears part fresh.
-      (unmoved (op.Pop queue.Inbox) (answer.Popped (item.Note n)) h s.ports s.out (record { free = λ app s. refl; sent = λ app s. refl; down = λ app s. refl }) w, tt)
-  turn_hear h s time answer.Empty w = λ fits comes hears part fresh. (unmoved (op.Pop queue.Inbox) answer.Empty h s.ports s.out (record { free = λ app s. refl; sent = λ app s. refl; down = λ app s. refl }) w, tt)
+      (unmoved (op.Pop queue.Inbox) (answer.Popped (item.Note n)) h s.ports s.out (record { free = λ a. refl; sent = λ a. refl; down = λ a. refl }) w, tt)
+  turn_hear h s time answer.Empty w = λ fits comes hears part fresh. (unmoved (op.Pop queue.Inbox) answer.Empty h s.ports s.out (record { free = λ a. refl; sent = λ a. refl; down = λ a. refl }) w, tt)
   turn_hear h s time a w = λ fits comes hears part fresh. absurd fits
 
   -- ---- an item of an application
@@ -242,11 +244,11 @@ module _ (g : Aim) (f : Facts) (whole : Past) (k : IsAim g f whole) where
   turn_serve app h s time (answer.Popped i) few free empty w = λ fits comes hears part fresh.
       (stands_served g f whole k i h (at_rest (asked_by f s time (plan.Serve app))) app time (subst (λ n. app < n) (sym w.apps) few) comes.0 comes.1 hears free empty w fresh, tt)
   turn_serve app h s time answer.Empty few free empty w = λ fits comes hears part fresh.
-      (unmoved (op.Pop (queue.Up app)) answer.Empty h s.ports s.out (record { free = λ a s. refl; sent = λ a s. refl; down = λ a s. refl }) w, tt)
+      (unmoved (op.Pop (queue.Up app)) answer.Empty h s.ports s.out (record { free = λ a. refl; sent = λ a. refl; down = λ a. refl }) w, tt)
   turn_serve app h s time a few free empty w = λ fits comes hears part fresh. absurd fits
 
   -- ---- an answer that is owed
-  plain_answer : (app : ℕ) (n : Note) (c : Came) (h : Past) (p : PlainPorts) (o : Option Leaving) (w : Stands g f h p o) → ((a s : ℕ) → frees way.Sent a s (noted.Pushed (queue.Down app) n) ≡ false) → c.ports.conns.apps ≡ p.conns.apps
+  plain_answer : (app : ℕ) (n : Note) (c : Came) (h : Past) (p : PlainPorts) (o : Option Leaving) (w : Stands g f h p o) → ((a : Seat) → frees way.Sent a (noted.Pushed (queue.Down app) n) ≡ false) → c.ports.conns.apps ≡ p.conns.apps
       → AreGood g.is w.numbering h.ends w.books c.ports → Stands g f (past_after (op.Push (queue.Down app) (item.Note n)) answer.Pushed [] h) c.ports o
   plain_answer app n c h p o w none same good =
       unmoved (op.Push (queue.Down app) (item.Note n)) answer.Pushed h c.ports o (quiet_answer app n none) (record { numbering = w.numbering; books = w.books; good = good; tells = w.tells; apps = same ∙ w.apps; out = w.out })
@@ -254,18 +256,19 @@ module _ (g : Aim) (f : Facts) (whole : Past) (k : IsAim g f whole) where
   answered_so : (n : Note) (app : ℕ) (c : Came) (h : Past) (p : PlainPorts) (w : Stands g f h p None) → app < p.conns.apps → IsReply n → Answers g.is w.numbering h.ends w.books p.conns.apps (record { app = app; note = n }) c
       → Stands g f (past_after (op.Push (queue.Down app) (item.Note n)) answer.Pushed [] h) c.ports None
   answered_so (note.Closed slot) app c h p w few reply a =
-      subst (λ x. Stands g f x c.ports None) (freed_entry app slot h) (record {
+      let freed : Seat = seat app slot in
+      subst (λ x. Stands g f x c.ports None) (freed_entry freed h) (record {
         numbering = w.numbering;
-        books = with_book app slot blank w.books;
-        good = subst (λ o. AreGood g.is w.numbering o (with_book app slot blank w.books) c.ports) (ordinals_freed app slot h) a.good;
-        tells = tells_freed g.over f.apps w.numbering h w.books app slot (λ how e. over_present g f whole k h w.numbering w.books p app slot how w.good few reply e) w.tells;
+        books = with_book freed blank w.books;
+        good = subst (λ o. AreGood g.is w.numbering o (with_book freed blank w.books) c.ports) (ordinals_freed freed h) a.good;
+        tells = tells_freed g.over f.apps w.numbering h w.books freed (λ how e. over_present g f whole k h w.numbering w.books p freed how w.good few reply e) w.tells;
         apps = a.same ∙ w.apps;
         out = tt;
       })
-  answered_so note.Bound app c h p w few reply a = plain_answer app note.Bound c h p None w (λ x s. refl) a.same a.good
-  answered_so (note.Connected slot) app c h p w few reply a = plain_answer app (note.Connected slot) c h p None w (λ x s. refl) a.same a.good
-  answered_so (note.Refused reason) app c h p w few reply a = plain_answer app (note.Refused reason) c h p None w (λ x s. refl) a.same a.good
-  answered_so (note.Down slot) app c h p w few reply a = plain_answer app (note.Down slot) c h p None w (λ x s. refl) a.same a.good
+  answered_so note.Bound app c h p w few reply a = plain_answer app note.Bound c h p None w (λ a. refl) a.same a.good
+  answered_so (note.Connected slot) app c h p w few reply a = plain_answer app (note.Connected slot) c h p None w (λ a. refl) a.same a.good
+  answered_so (note.Refused reason) app c h p w few reply a = plain_answer app (note.Refused reason) c h p None w (λ a. refl) a.same a.good
+  answered_so (note.Down slot) app c h p w few reply a = plain_answer app (note.Down slot) c h p None w (λ a. refl) a.same a.good
   answered_so (note.Bind port need) app c h p w few reply a = absurd reply
   answered_so (note.Connect slot dest port prio flags from) app c h p w few reply a = absurd reply
   answered_so (note.Close slot) app c h p w few reply a = absurd reply
@@ -300,86 +303,86 @@ module _ (g : Aim) (f : Facts) (whole : Past) (k : IsAim g f whole) where
       )
 
   -- ---- a Down note
-  turned_stands : (app slot : ℕ) (h : Past) (p : PlainPorts) (o : Option Leaving) → Stands g f h p o → Stands g f h (turned app slot p) o
-  turned_stands app slot h p o w = record { numbering = w.numbering; books = w.books; good = k.ports.turns w.numbering h.ends w.books p app slot w.good; tells = w.tells; apps = w.apps; out = w.out }
+  turned_stands : (seat : Seat) (h : Past) (p : PlainPorts) (o : Option Leaving) → Stands g f h p o → Stands g f h (turned seat p) o
+  turned_stands seat h p o w = record { numbering = w.numbering; books = w.books; good = k.ports.turns w.numbering h.ends w.books p seat w.good; tells = w.tells; apps = w.apps; out = w.out }
 
-  turn_tell : (app slot : ℕ) (h : Past) (s : State) (time : ℕ) (a : AnswerShown) → Stands g f h s.ports s.out → Turns h s time (plan.Tell app slot) a
-  turn_tell app slot h s time answer.Pushed w = λ fits comes hears part fresh.
-      let v = turned_stands app slot h s.ports s.out w in (
-        unmoved (op.Push (queue.Down app) (item.Note (note.Down slot))) answer.Pushed h (told_down app slot (turned app slot s.ports)) s.out (quiet_answer app (note.Down slot) (λ x s. refl))
-            (record { numbering = v.numbering; books = v.books; good = k.ports.tells v.numbering h.ends v.books (turned app slot s.ports) app slot v.good; tells = v.tells; apps = v.apps; out = v.out }),
+  turn_tell : (seat : Seat) (h : Past) (s : State) (time : ℕ) (a : AnswerShown) → Stands g f h s.ports s.out → Turns h s time (plan.Tell seat) a
+  turn_tell seat h s time answer.Pushed w = λ fits comes hears part fresh.
+      let v = turned_stands seat h s.ports s.out w in (
+        unmoved (op.Push (queue.Down seat.app) (item.Note (note.Down seat.slot))) answer.Pushed h (told_down seat (turned seat s.ports)) s.out (quiet_answer seat.app (note.Down seat.slot) (λ a. refl))
+            (record { numbering = v.numbering; books = v.books; good = k.ports.tells v.numbering h.ends v.books (turned seat s.ports) seat v.good; tells = v.tells; apps = v.apps; out = v.out }),
         tt,
       )
-  turn_tell app slot h s time (answer.Full i) w = λ fits comes hears part fresh.
-      (back_so (queue.Down app) (item.Note (note.Down slot)) i (packet_in (Some i)) h (at_rest (asked_by f s time (plan.Tell app slot))) (turned_stands app slot h s.ports s.out w), tt)
-  turn_tell app slot h s time a w = λ fits comes hears part fresh. absurd fits
+  turn_tell seat h s time (answer.Full i) w = λ fits comes hears part fresh.
+      (back_so (queue.Down seat.app) (item.Note (note.Down seat.slot)) i (packet_in (Some i)) h (at_rest (asked_by f s time (plan.Tell seat))) (turned_stands seat h s.ports s.out w), tt)
+  turn_tell seat h s time a w = λ fits comes hears part fresh. absurd fits
 
   -- ---- a packet that is delivered
-  delivering_so : (app slot : ℕ) (b : PlainBuffer) (h : Past) (s : State) (time : ℕ) (a : AnswerShown) → app < s.ports.conns.apps → slot < SLOTS → delivery (machine_at s.ports app slot) ≡ Some b → s.out ≡ None → Stands g f h s.ports s.out
-      → Fits (op.Push (queue.Down app) (item.Packet slot b.picture)) a
-      → Stands g f (past_after (op.Push (queue.Down app) (item.Packet slot b.picture)) a (after_told s time (plan.Deliver app slot) a).events h) (after_told s time (plan.Deliver app slot) a).state.ports (after_told s time (plan.Deliver app slot) a).state.out
-  delivering_so app slot b h s time answer.Pushed few low e empty w fits =
-      let v = turned_stands app slot h s.ports s.out w in
-      let q : PlainPorts = turned app slot s.ports in
-      let c : Came = delivered time app slot (without_packet app slot q) in
-      let came = k.ports.delivers v.numbering h.ends v.books q app slot time b few low e v.good in
-      subst (λ x. Stands g f x c.ports s.out) (down_entry app slot b.picture c.events h)
-      (stands_came g f (down_on app slot b.picture.payload h) s.ports.conns.apps s.out v.numbering (with_down app slot b.picture.payload v.books) c w.apps (tells_down g.over f.apps v.numbering h v.books app slot b.picture.payload v.tells)
-      (subst (IsOut g f.apps (with_down app slot b.picture.payload v.books)) (sym empty) tt) came)
-  delivering_so app slot b h s time (answer.Full i) few low e empty w fits =
-      let v = turned_stands app slot h s.ports s.out w in
-      let q : PlainPorts = turned app slot s.ports in
-      let t : State = at_rest (asked_by f s time (plan.Deliver app slot)) in
-      subst (λ j. Stands g f (past_after (op.Push (queue.Down app) (item.Packet slot b.picture)) (answer.Full j) (kept_back t app slot (packet_in (Some j))).events h) (kept_back t app slot (packet_in (Some j))).state.ports (kept_back t app slot (packet_in (Some j))).state.out) (sym fits)
-      (unmoved (op.Push (queue.Down app) (item.Packet slot b.picture)) (answer.Full (item.Packet slot b.picture)) h (kept_again app slot b.picture (without_packet app slot q)) s.out (quiet_full (queue.Down app) (item.Packet slot b.picture) (item.Packet slot b.picture) [])
-      (record { numbering = v.numbering; books = v.books; good = k.ports.keeps v.numbering h.ends v.books q app slot b few low e v.good; tells = v.tells; apps = v.apps; out = v.out }))
-  delivering_so app slot b h s time a few low e empty w fits = absurd fits
+  delivering_so : (seat : Seat) (b : PlainBuffer) (h : Past) (s : State) (time : ℕ) (a : AnswerShown) → seat.app < s.ports.conns.apps → seat.slot < SLOTS → delivery (machine_at s.ports seat) ≡ Some b → s.out ≡ None → Stands g f h s.ports s.out
+      → Fits (op.Push (queue.Down seat.app) (item.Packet seat.slot b.picture)) a
+      → Stands g f (past_after (op.Push (queue.Down seat.app) (item.Packet seat.slot b.picture)) a (after_told s time (plan.Deliver seat) a).events h) (after_told s time (plan.Deliver seat) a).state.ports (after_told s time (plan.Deliver seat) a).state.out
+  delivering_so seat b h s time answer.Pushed few low e empty w fits =
+      let v = turned_stands seat h s.ports s.out w in
+      let q : PlainPorts = turned seat s.ports in
+      let c : Came = delivered time seat (without_packet seat q) in
+      let came = k.ports.delivers v.numbering h.ends v.books q seat time b few low e v.good in
+      subst (λ x. Stands g f x c.ports s.out) (down_entry seat b.picture c.events h)
+      (stands_came g f (one_down seat b.picture.payload h) s.ports.conns.apps s.out v.numbering (with_down seat b.picture.payload v.books) c w.apps (tells_down g.over f.apps v.numbering h v.books seat b.picture.payload v.tells)
+      (subst (IsOut g f.apps (with_down seat b.picture.payload v.books)) (sym empty) tt) came)
+  delivering_so seat b h s time (answer.Full i) few low e empty w fits =
+      let v = turned_stands seat h s.ports s.out w in
+      let q : PlainPorts = turned seat s.ports in
+      let t : State = at_rest (asked_by f s time (plan.Deliver seat)) in
+      subst (λ j. Stands g f (past_after (op.Push (queue.Down seat.app) (item.Packet seat.slot b.picture)) (answer.Full j) (kept_back t seat (packet_in (Some j))).events h) (kept_back t seat (packet_in (Some j))).state.ports (kept_back t seat (packet_in (Some j))).state.out) (sym fits)
+      (unmoved (op.Push (queue.Down seat.app) (item.Packet seat.slot b.picture)) (answer.Full (item.Packet seat.slot b.picture)) h (kept_again seat b.picture (without_packet seat q)) s.out (quiet_full (queue.Down seat.app) (item.Packet seat.slot b.picture) (item.Packet seat.slot b.picture) [])
+      (record { numbering = v.numbering; books = v.books; good = k.ports.keeps v.numbering h.ends v.books q seat b few low e v.good; tells = v.tells; apps = v.apps; out = v.out }))
+  delivering_so seat b h s time a few low e empty w fits = absurd fits
 
-  turn_deliver : (o : Option PlainBuffer) (app slot : ℕ) (h : Past) (s : State) (time : ℕ) (a : AnswerShown) → app < s.ports.conns.apps → slot < SLOTS → delivery (machine_at s.ports app slot) ≡ o → is_some o ≡ true → s.out ≡ None → Stands g f h s.ports s.out
-      → Turns h s time (plan.Deliver app slot) a
-  turn_deliver None app slot h s time a few low e some empty w = absurd cc
-  turn_deliver (Some b) app slot h s time a few low e some empty w =
-      let p : Plan = plan.Deliver app slot in
+  turn_deliver : (o : Option PlainBuffer) (seat : Seat) (h : Past) (s : State) (time : ℕ) (a : AnswerShown) → seat.app < s.ports.conns.apps → seat.slot < SLOTS → delivery (machine_at s.ports seat) ≡ o → is_some o ≡ true → s.out ≡ None → Stands g f h s.ports s.out
+      → Turns h s time (plan.Deliver seat) a
+  turn_deliver None seat h s time a few low e some empty w = absurd cc
+  turn_deliver (Some b) seat h s time a few low e some empty w =
+      let p : Plan = plan.Deliver seat in
       λ fits comes hears part fresh. (
-        subst (λ x. Fits (delivering x app slot) a → Stands g f (past_after (delivering x app slot) a (after_told s time p a).events h) (after_told s time p a).state.ports (after_told s time p a).state.out) (sym e)
-            (delivering_so app slot b h s time a few low e empty w) fits,
-        subst (λ x. PushedSo g (delivering x app slot) a) (sym e) tt,
+        subst (λ x. Fits (delivering x seat) a → Stands g f (past_after (delivering x seat) a (after_told s time p a).events h) (after_told s time p a).state.ports (after_told s time p a).state.out) (sym e)
+            (delivering_so seat b h s time a few low e empty w) fits,
+        subst (λ x. PushedSo g (delivering x seat) a) (sym e) tt,
       )
 
   -- ---- a packet that is made
 
   -- each machine of the node's slots that owes something is as it is to be
   abbrev pub FoundSo : ℕ → PlainPorts → Type 0
-  FoundSo time p = (app slot : ℕ) (j : Job) → app < f.apps → slot < SLOTS → job_of time (machine_at p app slot) ≡ Some j → g.at (machine_at p app slot)
+  FoundSo time p = (seat : Seat) (j : Job) → seat.app < f.apps → seat.slot < SLOTS → job_of time (machine_at p seat) ≡ Some j → g.at (machine_at p seat)
 
-  turn_make : (app slot : ℕ) (j : Job) (h : Past) (s : State) (time : ℕ) (a : AnswerShown) → g.at (machine_at s.ports app slot) → app < s.ports.conns.apps → slot < SLOTS → job_of time (machine_at s.ports app slot) ≡ Some j → s.out ≡ None → Stands g f h s.ports s.out
-      → Turns h s time (plan.Make app slot j) a
-  turn_make app slot j h s time (answer.Taken b) so few low e empty w = λ fits comes hears part fresh.
-      let v = turned_stands app slot h s.ports s.out w in
-      let q : PlainPorts = turned app slot s.ports in
-      let t : State = at_rest (asked_by f s time (plan.Make app slot j)) in
-      let known = k.ports.owes v.numbering h.ends v.books q app slot time j few low e v.good in
-      let x : Content = addressed f known.0.connection (terms_at q app slot) (made_in j time app slot b q) in
-      let good : g.good x = k.makes h v.numbering v.books q app slot time j b known.0.connection (part_before op.Take (answer.Taken b) (after_told s time (plan.Make app slot j) (answer.Taken b)).events h whole part) v.tells (v.good.counted app slot few low) known.0.there known.1 so e in
-      let u : Stands g f h (making j time app slot q) s.out = record { numbering = v.numbering; books = v.books; good = k.ports.makes v.numbering h.ends v.books q app slot time j few low e v.good; tells = v.tells; apps = v.apps; out = v.out } in
-      let done = stands_sent g f whole k h (record t { ports = making j time app slot q }) x u good in (
-        subst (λ o. AllByRecursion g.fresh (made_on o j f t app slot time b).events → Stands g f (past_after op.Take (answer.Taken b) (made_on o j f t app slot time b).events h) (made_on o j f t app slot time b).state.ports (made_on o j f t app slot time b).state.out)
-            (sym known.0.there) (quietly op.Take (answer.Taken b) h (sent f (record t { ports = making j time app slot q }) x) (quiet_take (answer.Taken b) (sent f (record t { ports = making j time app slot q }) x).events) done) fresh,
+  turn_make : (seat : Seat) (j : Job) (h : Past) (s : State) (time : ℕ) (a : AnswerShown) → g.at (machine_at s.ports seat) → seat.app < s.ports.conns.apps → seat.slot < SLOTS → job_of time (machine_at s.ports seat) ≡ Some j → s.out ≡ None → Stands g f h s.ports s.out
+      → Turns h s time (plan.Make seat j) a
+  turn_make seat j h s time (answer.Taken b) so few low e empty w = λ fits comes hears part fresh.
+      let v = turned_stands seat h s.ports s.out w in
+      let q : PlainPorts = turned seat s.ports in
+      let t : State = at_rest (asked_by f s time (plan.Make seat j)) in
+      let known = k.ports.owes v.numbering h.ends v.books q seat time j few low e v.good in
+      let x : Content = addressed f known.0.connection (terms_at q seat) (made_in j time seat b q) in
+      let good : g.good x = k.makes h v.numbering v.books q seat time j b known.0.connection (part_before op.Take (answer.Taken b) (after_told s time (plan.Make seat j) (answer.Taken b)).events h whole part) v.tells (v.good.counted seat few low) known.0.there known.1 so e in
+      let u : Stands g f h (making j time seat q) s.out = record { numbering = v.numbering; books = v.books; good = k.ports.makes v.numbering h.ends v.books q seat time j few low e v.good; tells = v.tells; apps = v.apps; out = v.out } in
+      let done = stands_sent g f whole k h (record t { ports = making j time seat q }) x u good in (
+        subst (λ o. AllByRecursion g.fresh (made_on o (seat, j) (router f t) time b).events → Stands g f (past_after op.Take (answer.Taken b) (made_on o (seat, j) (router f t) time b).events h) (made_on o (seat, j) (router f t) time b).state.ports (made_on o (seat, j) (router f t) time b).state.out)
+            (sym known.0.there) (quietly op.Take (answer.Taken b) h (sent f (record t { ports = making j time seat q }) x) (quiet_take (answer.Taken b) (sent f (record t { ports = making j time seat q }) x).events) done) fresh,
         tt,
       )
-  turn_make app slot j h s time answer.NoBuffer so few low e empty w = λ fits comes hears part fresh.
-      (unmoved op.Take answer.NoBuffer h (turned app slot s.ports) s.out (quiet_take answer.NoBuffer []) (turned_stands app slot h s.ports s.out w), tt)
-  turn_make app slot j h s time a so few low e empty w = λ fits comes hears part fresh. absurd fits
+  turn_make seat j h s time answer.NoBuffer so few low e empty w = λ fits comes hears part fresh.
+      (unmoved op.Take answer.NoBuffer h (turned seat s.ports) s.out (quiet_take answer.NoBuffer []) (turned_stands seat h s.ports s.out w), tt)
+  turn_make seat j h s time a so few low e empty w = λ fits comes hears part fresh. absurd fits
 
   -- ---- the jobs, by which is owed
-  turn_task : (x : Task) (app slot : ℕ) (h : Past) (s : State) (time : ℕ) (a : AnswerShown) → FoundSo time s.ports → IsTask time s.ports (app, slot, x) → s.out ≡ None → Stands g f h s.ports s.out → Turns h s time (plan_for app slot x) a
-  turn_task task.Tell app slot h s time a so is empty w = turn_tell app slot h s time a w
-  turn_task task.Deliver app slot h s time a so is empty w = turn_deliver (delivery (machine_at s.ports app slot)) app slot h s time a is.app_there is.slot_there refl (deliver_job time s.ports app slot is.is_task) empty w
-  turn_task (task.Make j) app slot h s time a so is empty w = turn_make app slot j h s time a (so app slot j (subst (λ n. app < n) w.apps is.app_there) is.slot_there (make_job time s.ports app slot j is.is_task)) is.app_there is.slot_there (make_job time s.ports app slot j is.is_task) empty w
+  turn_task : (x : Task) (seat : Seat) (h : Past) (s : State) (time : ℕ) (a : AnswerShown) → FoundSo time s.ports → IsTask time s.ports (seat, x) → s.out ≡ None → Stands g f h s.ports s.out → Turns h s time (plan_for seat x) a
+  turn_task task.Tell seat h s time a so is empty w = turn_tell seat h s time a w
+  turn_task task.Deliver seat h s time a so is empty w = turn_deliver (delivery (machine_at s.ports seat)) seat h s time a is.app_there is.slot_there refl (deliver_job time s.ports seat is.is_task) empty w
+  turn_task (task.Make j) seat h s time a so is empty w = turn_make seat j h s time a (so seat j (subst (λ n. seat.app < n) w.apps is.app_there) is.slot_there (make_job time s.ports seat j is.is_task)) is.app_there is.slot_there (make_job time s.ports seat j is.is_task) empty w
 
-  turn_jobs : (owed : List Owed) (o : Option (ℕ × ℕ × Task)) (h : Past) (s : State) (time : ℕ) (a : AnswerShown) → FoundSo time s.ports → s.ports.owed ≡ owed → next_task time s.ports ≡ o → s.out ≡ None → Stands g f h s.ports s.out → Turns h s time (jobs_by owed o) a
+  turn_jobs : (owed : List Owed) (o : Option (Seat × Task)) (h : Past) (s : State) (time : ℕ) (a : AnswerShown) → FoundSo time s.ports → s.ports.owed ≡ owed → next_task time s.ports ≡ o → s.out ≡ None → Stands g f h s.ports s.out → Turns h s time (jobs_by owed o) a
   turn_jobs (o ∷ os) t h s time a so e q empty w = turn_reply o os h s time a e empty w
-  turn_jobs [] (Some t) h s time a so e q empty w = turn_task t.2 t.0 t.1 h s time a so (task_there time s.ports t q) empty w
+  turn_jobs [] (Some t) h s time a so e q empty w = turn_task t.1 t.0 h s time a so (task_there time s.ports t q) empty w
   turn_jobs [] None h s time a so e q empty w = turn_rest h s time a w
 
   -- ---- the work that was found
@@ -437,3 +440,4 @@ module _ (g : Aim) (f : Facts) (whole : Past) (k : IsAim g f whole) where
       let same = timed_first h s time a w in
       let done = turn_plan t.trash t.out (with_openings c.events h) t time a so refl (stands_timed h s time w) fits comes hears (subst (λ x. IsPart x whole) (sym same) part) (all_second g.fresh c.events told.events (subst (AllByRecursion g.fresh) (events_are f s time a (plan_of f t time) refl) fresh)) in
       (subst (λ x. Stands g f x told.state.ports told.state.out) same done.0, done.1)
+

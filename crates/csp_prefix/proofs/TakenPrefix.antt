@@ -1,6 +1,8 @@
 -- What was taken on a reliable connection is a beginning of what was sent on its peer's.
 use Rattle.std.proofs.Common.{◌≡◌, ◌⊎◌, inl, inr, ℕ, false, Some, List, [], ◌∷◌, ◌++◌, flat_map, slice_get, unwrap_or, refl, sym, ap, ◌∙◌, subst, append_assoc}
 use Rattle.std.proofs.lemmas.Option.{slice_get_within}
+use Rattle.csp_base.specs.Seat.{seat}
+use Rattle.csp_base.specs.declared.seat.Seat.{Seat}
 use Rattle.csp_log.specs.PlainLog.{all_events}
 use Rattle.csp_log.specs.declared.entry.Entry.{Entry}
 use Rattle.csp_log.specs.declared.places.QueueId.TheVariants as queue
@@ -49,33 +51,33 @@ module _ (scene : PlainScene) (r : PlainRecord) (is : IsScene scene) (con : IsCo
   no_stale place = events_of (λ e. is_stale e ≡ false) (who.Router place) r.parties (none_counted is_stale (flat_map (λ (log : PlainPartyLog). all_events log.entries) r.parties) fresh)
 
   -- what an application took begins what its router delivered
-  took_begins : (place app slot ordinal : ℕ) (t : RouterThere scene r place)
-      → IsBeginning (took app slot ordinal (entries_of r (who.App place app))) (delivered app slot ordinal (entries_of r (who.Router place)))
-  took_begins place app slot ordinal t =
-      by (logged scene r (who.App place app) con.runs)
+  took_begins : (place : ℕ) (seat : Seat) (ordinal : ℕ) (t : RouterThere scene r place)
+      → IsBeginning (took seat ordinal (entries_of r (who.App place seat.app))) (delivered seat ordinal (entries_of r (who.Router place)))
+  took_begins place seat ordinal t =
+      by (logged scene r (who.App place seat.app) con.runs)
     where
-      lane : (n : PlainNode) → slice_get scene.nodes place ≡ Some n → AreAppLanes r place (leader_of place n.addr) app → AreAppLanes r place (who.Router place) app
+      lane : (n : PlainNode) → slice_get scene.nodes place ≡ Some n → AreAppLanes r place (leader_of place n.addr) seat.app → AreAppLanes r place (who.Router place) seat.app
       lane n there all =
           let one : n ≡ t.node = ap (λ o. unwrap_or o n) (sym there ∙ t.there) in
-          subst (λ a. AreAppLanes r place (leader_of place a) app) (ap (λ (m : PlainNode). m.addr) one ∙ t.called) all
+          subst (λ a. AreAppLanes r place (leader_of place a) seat.app) (ap (λ (m : PlainNode). m.addr) one ∙ t.called) all
 
-      by : (entries_of r (who.App place app) ≡ []) ⊎ Logged (IsOf scene) (who.App place app) r.parties → IsBeginning (took app slot ordinal (entries_of r (who.App place app))) (delivered app slot ordinal (entries_of r (who.Router place)))
-      by (inl none) = begins_nothing (took app slot ordinal (entries_of r (who.App place app))) (delivered app slot ordinal (entries_of r (who.Router place))) (ap (took app slot ordinal) none)
+      by : (entries_of r (who.App place seat.app) ≡ []) ⊎ Logged (IsOf scene) (who.App place seat.app) r.parties → IsBeginning (took seat ordinal (entries_of r (who.App place seat.app))) (delivered seat ordinal (entries_of r (who.Router place)))
+      by (inl none) = begins_nothing (took seat ordinal (entries_of r (who.App place seat.app))) (delivered seat ordinal (entries_of r (who.Router place))) (ap (took seat ordinal) none)
       by (inr l) =
-          let at : IsAppAt scene.nodes place app l.opening.party = owner_of scene r (who.App place app) l in
-          let lanes : AreAppLanes r place (who.Router place) app = lane at.node at.there (app_lanes_there scene r place app at.node con.lanes at.there (slice_get_within at.node.apps app at.app at.of_it)) in
-          let got : List ItemShown = gets (queue.Down app) (entries_of r (who.App place app)) in
-          let put : List ItemShown = puts (queue.Down app) (entries_of r (who.Router place)) in
-          begins_same (payloads_in slot ordinal got) (took app slot ordinal (entries_of r (who.App place app))) (payloads_in slot ordinal put) (delivered app slot ordinal (entries_of r (who.Router place)))
-          ((app_true scene r place app con.runs).takes slot ordinal) (sym (delivered_is app slot ordinal (entries_of r (who.Router place))))
-          (payloads_begin slot ordinal got (left_in r place (queue.Down app) 0) put lanes.1.kept.order)
+          let at : IsAppAt scene.nodes place seat.app l.opening.party = owner_of scene r (who.App place seat.app) l in
+          let lanes : AreAppLanes r place (who.Router place) seat.app = lane at.node at.there (app_lanes_there scene r place seat.app at.node con.lanes at.there (slice_get_within at.node.apps seat.app at.app at.of_it)) in
+          let got : List ItemShown = gets (queue.Down seat.app) (entries_of r (who.App place seat.app)) in
+          let put : List ItemShown = puts (queue.Down seat.app) (entries_of r (who.Router place)) in
+          begins_same (payloads_in seat.slot ordinal got) (took seat ordinal (entries_of r (who.App place seat.app))) (payloads_in seat.slot ordinal put) (delivered seat ordinal (entries_of r (who.Router place)))
+          ((app_true scene r place seat.app con.runs).takes seat.slot ordinal) (sym (delivered_is seat ordinal (entries_of r (who.Router place))))
+          (payloads_begin seat.slot ordinal got (left_in r place (queue.Down seat.app) 0) put lanes.1.kept.order)
 
   -- so it begins what the flow of the peer says
   took_said : (place app nth : ℕ) (x : Opening) (peer : ℕ × ℕ) → IsOpened r place app x → x.nth ≡ Some nth → x.peer ≡ Some peer → IsBeginning (took_on r place app x) ((flows_in scene r).said peer)
   took_said place app nth x peer opened numbered peered =
       let es : List Entry = entries_of r (who.Router place) in
       let t : RouterThere scene r place = opener scene r is con place app opened.at x opened.there in
-      begins_then (took_on r place app x) (delivered app x.slot x.ordinal es) ((flows_in scene r).said peer) (took_begins place app x.slot x.ordinal t)
+      begins_then (took_on r place app x) (delivered (seat app x.slot) x.ordinal es) ((flows_in scene r).said peer) (took_begins place (seat app x.slot) x.ordinal t)
       ((true_router scene r is con same true_routers place t).delivers (flows_in scene r) (are_shown scene r is con same true_routers place t) (hears_genuine scene r is con same true_routers place t) (no_stale place)
       app nth x peer (record { at = opened.at; there = opened.there; numbered = numbered }) peered)
 
@@ -93,3 +95,4 @@ module _ (scene : PlainScene) (r : PlainRecord) (is : IsScene scene) (con : IsCo
         (said_none (entries_of r (who.Router peer.0)) peer.1 (λ other y flow. none other y (record { at = flow.at; there = flow.there }, flow.numbered)))
         (took_said place app nth x peer opened numbered peered));
   }
+

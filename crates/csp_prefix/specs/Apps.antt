@@ -1,6 +1,7 @@
 -- What the run of an application gives, by its own log.
 use Rattle.std.specs.Prelude.{◌≡◌, ℕ, List}
 use Rattle.std.specs.List.{AllByRecursion}
+use Rattle.csp_base.specs.Seat.{seat}
 use Rattle.csp_app.specs.Asking.{asks, asked}
 use Rattle.csp_app.specs.PlainApp.{PlainApp, has_ended, opening}
 use Rattle.csp_app.specs.Telling.{events, tells}
@@ -24,7 +25,7 @@ IsAppLog number steps es = IsRun app_steps 0 (opening number steps) es
 -- its packets have no trace; and it took the payloads of what it got
 pub record IsTrueApp (number : ℕ) (es : List Entry) : Type 0 where
   pub untraced : AllByRecursion IsUntraced (puts (queue.Up number) es)
-  pub takes : (slot ordinal : ℕ) → took number slot ordinal es ≡ payloads_in slot ordinal (gets (queue.Down number) es)
+  pub takes : (slot ordinal : ℕ) → took (seat number slot) ordinal es ≡ payloads_in slot ordinal (gets (queue.Down number) es)
 
 -- the claim of applications: each log of one is true
 abbrev pub AreTrueApps : Type 0

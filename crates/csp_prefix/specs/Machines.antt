@@ -2,9 +2,10 @@
 use Rattle.std.specs.Prelude.{◌≡◌, ◌≤◌, ℕ, pos, ◌<◌, ◌+◌, true, false, Option, None, Some, List, [], ◌++◌, length, take, All, ⊤}
 use Rattle.std.specs.Option.{option_to_list}
 use Rattle.csp_base.specs.Sequence.{number_of}
+use Rattle.csp_base.specs.declared.seat.Seat.{Seat}
 use Rattle.csp_base.specs.declared.traces.Tag.{Tag}
 use Rattle.csp_ports.specs.PlainPorts.{start_of}
-use Rattle.csp_ports.specs.declared.origin.Origin.{Origin}
+use Rattle.csp_ports.specs.declared.flows.OwnFlows.{OwnFlows}
 use Rattle.csp_rdp.specs.Jobs.{head_for, job_of, says}
 use Rattle.csp_rdp.specs.Machine.{PlainRdp, flow_of}
 use Rattle.csp_rdp.specs.declared.answers.State.{State}
@@ -40,16 +41,16 @@ true_packets flows = record { fed = λ c. IsFed flows; invites = λ c flags. IsI
 
 -- ---- numbers of a connection that is open or to be opened: its own start, and the place at which it was made
 -- a machine has its own number, with the start and the slot that belong to it
-pub record IsNumbered (o : Origin) (m : Numbering) (app slot : ℕ) (n : Now) : Type 0 where
+pub record IsNumbered (o : OwnFlows) (m : Numbering) (seat : Seat) (n : Now) : Type 0 where
   pub node : n.machine.node ≡ o.node
   pub start : n.machine.send.start ≡ start_of o.seed n.machine.nth
   pub made : n.machine.nth < m.made
-  pub home : m.home n.machine.nth ≡ (app, slot, n.ordinal)
+  pub home : m.home n.machine.nth ≡ (seat, n.ordinal)
 
 -- an opening of a reliable connection has its number, made at this place
-pub record IsOpeningOf (m : Numbering) (app slot ordinal nth : ℕ) : Type 0 where
+pub record IsOpeningOf (m : Numbering) (seat : Seat) (ordinal nth : ℕ) : Type 0 where
   pub made : nth < m.made
-  pub home : m.home nth ≡ (app, slot, ordinal)
+  pub home : m.home nth ≡ (seat, ordinal)
 
 -- what was sent on an open connection was admitted, but for the payload that waits; and its window has each payload at its index
 pub record IsSending (n : Now) : Type 0 where
@@ -64,13 +65,13 @@ pub record IsUntold (n : Now) : Type 0 where
   pub waits : n.waits ≡ None
 
 -- how a connection that was open became so
-pub record WasOpened (m : Numbering) (app slot : ℕ) (n : Now) : Type 0 where
+pub record WasOpened (m : Numbering) (seat : Seat) (n : Now) : Type 0 where
   pub opened : n.book.opened ≡ Some (Some n.machine.nth, n.machine.peer)
-  pub numbered : IsOpeningOf m app slot n.ordinal n.machine.nth
+  pub numbered : IsOpeningOf m seat n.ordinal n.machine.nth
 
 -- one that is over: it was open, or never
-abbrev pub IsOver : Numbering → ℕ → ℕ → Now → Type 0
-IsOver m app slot n = (n.machine.was_open ≡ true → WasOpened m app slot n) × (n.machine.was_open ≡ false → IsUntold n)
+abbrev pub IsOver : Numbering → Seat → Now → Type 0
+IsOver m seat n = (n.machine.was_open ≡ true → WasOpened m seat n) × (n.machine.was_open ≡ false → IsUntold n)
 
 -- a window that nothing was admitted to
 pub record HasSentNothing (n : Now) : Type 0 where
@@ -78,35 +79,35 @@ pub record HasSentNothing (n : Now) : Type 0 where
   pub packets : n.machine.send.packets ≡ []
 
 -- the sender, by state
-abbrev pub SendsIn : State → Origin → Numbering → ℕ → ℕ → Now → Type 0
-SendsIn SynSent o m app slot n = IsNumbered o m app slot n × IsUntold n × HasSentNothing n × (n.machine.was_open ≡ false)
-SendsIn SynRcvd o m app slot n = IsNumbered o m app slot n × IsUntold n × HasSentNothing n × (n.machine.was_open ≡ false)
-SendsIn Open o m app slot n = IsNumbered o m app slot n × WasOpened m app slot n × IsSending n × (n.machine.was_open ≡ true)
-SendsIn CloseWait o m app slot n = IsOver m app slot n
-SendsIn Closed o m app slot n = IsOver m app slot n
+abbrev pub SendsIn : State → OwnFlows → Numbering → Seat → Now → Type 0
+SendsIn SynSent o m seat n = IsNumbered o m seat n × IsUntold n × HasSentNothing n × (n.machine.was_open ≡ false)
+SendsIn SynRcvd o m seat n = IsNumbered o m seat n × IsUntold n × HasSentNothing n × (n.machine.was_open ≡ false)
+SendsIn Open o m seat n = IsNumbered o m seat n × WasOpened m seat n × IsSending n × (n.machine.was_open ≡ true)
+SendsIn CloseWait o m seat n = IsOver m seat n
+SendsIn Closed o m seat n = IsOver m seat n
 
 -- what is known of a reliable connection as a sender
-abbrev pub IsSender : Origin → Numbering → ℕ → ℕ → Now → Type 0
-IsSender o m app slot n = SendsIn n.machine.state o m app slot n
+abbrev pub IsSender : OwnFlows → Numbering → Seat → Now → Type 0
+IsSender o m seat n = SendsIn n.machine.state o m seat n
 
 -- what such a connection says in a packet is true: an opening packet shows the start; a payload stands at its index in what was sent, on a
 -- connection that became open with this number, made here
-pub record SaysTrue (o : Origin) (m : Numbering) (app slot : ℕ) (n : Now) (time : ℕ) (j : Job) : Type 0 where
+pub record SaysTrue (o : OwnFlows) (m : Numbering) (seat : Seat) (n : Now) (time : ℕ) (j : Job) : Type 0 where
   pub syn : has_flag (head_for (says j time n.machine) n.machine) SYN ≡ true
       → (n.machine.node ≡ o.node) × ((head_for (says j time n.machine) n.machine).seq.0 ≡ start_of o.seed n.machine.nth)
   pub carries : is_data (head_for (says j time n.machine) n.machine) (says j time n.machine).bytes ≡ true
       → (n.machine.node ≡ o.node)
       × ((head_for (says j time n.machine) n.machine).seq.0 ≡ number_of (start_of o.seed n.machine.nth) (pos (says j time n.machine).index))
       × IsSaid n.book.sent (says j time n.machine).index (says j time n.machine).bytes
-      × WasOpened m app slot n
+      × WasOpened m seat n
 
 -- what a connection makes while that is known is filled as it says
-abbrev pub MakesTrue : (Numbering → ℕ → ℕ → Now → Type 0) → Origin → Type 0
-MakesTrue Is o = (m : Numbering) (app slot : ℕ) (n : Now) (time : ℕ) (j : Job) → Is m app slot n → job_of time n.machine ≡ Some j → SaysTrue o m app slot n time j
+abbrev pub MakesTrue : (Numbering → Seat → Now → Type 0) → OwnFlows → Type 0
+MakesTrue Is o = (m : Numbering) (seat : Seat) (n : Now) (time : ℕ) (j : Job) → Is m seat n → job_of time n.machine ≡ Some j → SaysTrue o m seat n time j
 
 -- where an opening is told, it is that of a connection with this number, made here
-abbrev pub OpensNumbered : (Numbering → ℕ → ℕ → Now → Type 0) → Type 0
-OpensNumbered Is = (m : Numbering) (app slot : ℕ) (n : Now) (nth : ℕ) (peer : Option (ℕ × ℕ)) → Is m app slot n → n.book.opened ≡ Some (Some nth, peer) → IsOpeningOf m app slot n.ordinal nth
+abbrev pub OpensNumbered : (Numbering → Seat → Now → Type 0) → Type 0
+OpensNumbered Is = (m : Numbering) (seat : Seat) (n : Now) (nth : ℕ) (peer : Option (ℕ × ℕ)) → Is m seat n → n.book.opened ≡ Some (Some nth, peer) → IsOpeningOf m seat n.ordinal nth
 
 -- ---- the receiver
 
@@ -143,9 +144,9 @@ ReceivesIn CloseWait flows n = IsToldSo n × (n.machine.was_open ≡ true → Ha
 ReceivesIn Closed flows n = IsToldSo n × (n.machine.was_open ≡ true → HasDelivered flows n)
 
 -- what is known of a reliable connection as a receiver
-abbrev pub IsReceiver : Flows → Numbering → ℕ → ℕ → Now → Type 0
-IsReceiver flows m app slot n = ReceivesIn n.machine.state flows n
+abbrev pub IsReceiver : Flows → Numbering → Seat → Now → Type 0
+IsReceiver flows m seat n = ReceivesIn n.machine.state flows n
 
 -- what was delivered is a beginning of the peer's flow
-abbrev pub Receives : (Numbering → ℕ → ℕ → Now → Type 0) → Flows → Type 0
-Receives Is flows = (m : Numbering) (app slot : ℕ) (n : Now) (nth : ℕ) (flow : ℕ × ℕ) → Is m app slot n → n.book.opened ≡ Some (Some nth, Some flow) → IsBeginning n.book.down (flows.said flow)
+abbrev pub Receives : (Numbering → Seat → Now → Type 0) → Flows → Type 0
+Receives Is flows = (m : Numbering) (seat : Seat) (n : Now) (nth : ℕ) (flow : ℕ × ℕ) → Is m seat n → n.book.opened ≡ Some (Some nth, Some flow) → IsBeginning n.book.down (flows.said flow)

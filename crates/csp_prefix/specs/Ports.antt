@@ -1,7 +1,9 @@
 -- What is to be known of the ports of a node, step by step, where a predicate is known of each reliable connection on a slot.
 use Rattle.std.specs.Prelude.{◌≡◌, ◌≢◌, ℕ, ◌+◌, ◌*◌, ◌<◌, ◌≤◌, ◌==◌, ◌&&◌, Bool, true, false, if◌then◌else◌, Option, None, Some, List, [], ◌∷◌, ◌++◌, length, count_by, IfSome, ⊤}
 use Rattle.std.specs.List.{AllByRecursion}
+use Rattle.csp_base.specs.Seat.{seat}
 use Rattle.csp_base.specs.declared.priority.Prio.{Prio}
+use Rattle.csp_base.specs.declared.seat.Seat.{Seat}
 use Rattle.csp_buffer.specs.Content.{Content}
 use Rattle.csp_buffer.specs.PlainBuffer.{PlainBuffer}
 use Rattle.csp_conn.specs.Opening.{own_port_of}
@@ -25,7 +27,7 @@ use Rattle.csp_ports.specs.PlainPorts.{PlainPorts, PlainStalled, machine_at, por
 use Rattle.csp_ports.specs.Steps.{timed}
 use Rattle.csp_ports.specs.Tasks.{delivered, kept_again, making, told_down, turned, without_packet}
 use Rattle.csp_ports.specs.declared.handing.Invitation.{Invitation}
-use Rattle.csp_ports.specs.declared.origin.Origin.{Origin}
+use Rattle.csp_ports.specs.declared.flows.OwnFlows.{OwnFlows}
 use Rattle.csp_ports.specs.declared.owed.Owed.{Owed}
 use Rattle.csp_ports.specs.declared.request.Request.{Request}
 use Rattle.csp_ports.specs.declared.terms.Terms.{Terms}
@@ -43,37 +45,41 @@ use Rattle.csp_prefix.specs.Slots.{Book, Coming, GoesOn, Now, Numbering, blank}
 
 -- ---- what the log tells of each slot
 
--- the books of all slots, by application and slot, and their ordinals
+-- the book of each slot
 abbrev pub Books : Type 0
-Books = ℕ → ℕ → Book
+Books = Seat → Book
 
 -- the ordinal of each slot's connection
 abbrev pub Ordinals : Type 0
-Ordinals = ℕ → ℕ → ℕ
+Ordinals = Seat → ℕ
 
--- with another one for a slot
-abbrev pub with_book : ℕ → ℕ → Book → Books → Books
-with_book app slot b books = λ a s. if a == app && s == slot then b else books a s
+-- whether two seats are one
+abbrev pub is_same : Seat → Seat → Bool
+is_same one other = one.app == other.app && one.slot == other.slot
+
+-- with another book of one slot
+abbrev pub with_book : Seat → Book → Books → Books
+with_book seat b books = λ other. if is_same seat other then b else books other
 
 -- with another ordinal of one slot
-abbrev pub with_ordinal : ℕ → ℕ → ℕ → Ordinals → Ordinals
-with_ordinal app slot ordinal ordinals = λ a s. if a == app && s == slot then ordinal else ordinals a s
+abbrev pub with_ordinal : Seat → ℕ → Ordinals → Ordinals
+with_ordinal seat ordinal ordinals = λ other. if is_same seat other then ordinal else ordinals other
 
 -- a connection became open, a payload was sent, a payload was delivered
-abbrev pub with_opened : ℕ → ℕ → Option ℕ × Option (ℕ × ℕ) → Books → Books
-with_opened app slot how books = with_book app slot (record (books app slot) { opened = Some how }) books
+abbrev pub with_opened : Seat → Option ℕ × Option (ℕ × ℕ) → Books → Books
+with_opened seat how books = with_book seat (record (books seat) { opened = Some how }) books
 
 -- the books with one more payload sent on a slot
-abbrev pub with_sent : ℕ → ℕ → List ℕ → Books → Books
-with_sent app slot payload books = with_book app slot (record (books app slot) { sent = (books app slot).sent ++ payload ∷ [] }) books
+abbrev pub with_sent : Seat → List ℕ → Books → Books
+with_sent seat payload books = with_book seat (record (books seat) { sent = (books seat).sent ++ payload ∷ [] }) books
 
 -- the books with one more payload delivered on a slot
-abbrev pub with_down : ℕ → ℕ → List ℕ → Books → Books
-with_down app slot payload books = with_book app slot (record (books app slot) { down = (books app slot).down ++ payload ∷ [] }) books
+abbrev pub with_down : Seat → List ℕ → Books → Books
+with_down seat payload books = with_book seat (record (books seat) { down = (books seat).down ++ payload ∷ [] }) books
 
 -- the books after an event, and after several
 abbrev pub noted_by : Event → Books → Books
-noted_by (event.Opened app slot nth peer) books = with_opened app slot (nth, peer) books
+noted_by (event.Opened app slot nth peer) books = with_opened (seat app slot) (nth, peer) books
 noted_by _ books = books
 
 -- the books after these events
@@ -83,7 +89,7 @@ noted (e ∷ es) books = noted es (noted_by e books)
 
 -- each event is none that something was sent; and it tells an opening only of a slot that is there, whose connection was not open before
 abbrev pub IsNew : ℕ → Event → Books → Type 0
-IsNew apps (event.Opened app slot nth peer) books = (app < apps) × (slot < SLOTS) × ((books app slot).opened ≡ None)
+IsNew apps (event.Opened app slot nth peer) books = (app < apps) × (slot < SLOTS) × ((books (seat app slot)).opened ≡ None)
 IsNew apps (event.Sent slot ordinal) books = ⊥
 IsNew apps _ books = ⊤
 
@@ -106,8 +112,8 @@ connection_in has.Free = between 0 0 0
 connection_in has.Held = between 0 0 0
 
 -- the connection on a slot
-abbrev pub now_at : PlainPorts → Books → ℕ → ℕ → Now
-now_at p books app slot = record { connection = connection_in (slot_at p.conns app slot); flags = (terms_at p app slot).flags; machine = machine_at p app slot; ordinal = (terms_at p app slot).ordinal; waits = waiting_on slot (stalled_at p app); book = books app slot }
+abbrev pub now_at : PlainPorts → Books → Seat → Now
+now_at p books seat = record { connection = connection_in (slot_at p.conns seat); flags = (terms_at p seat).flags; machine = machine_at p seat; ordinal = (terms_at p seat).ordinal; waits = waiting_on seat.slot (stalled_at p seat.app); book = books seat }
 
 -- nothing is on a slot
 pub record IsVacant (n : Now) : Type 0 where
@@ -122,15 +128,15 @@ pub record IsPlain (n : Now) : Type 0 where
   pub opened : n.book.opened ≡ Some (None, None)
 
 -- of a reliable one the predicate is known
-abbrev pub IsInUse : (Numbering → ℕ → ℕ → Now → Type 0) → (is_reliable : Bool) → Numbering → ℕ → ℕ → Now → Type 0
-IsInUse Is true m app slot n = Is m app slot n
-IsInUse Is false m app slot n = IsPlain n
+abbrev pub IsInUse : (Numbering → Seat → Now → Type 0) → (is_reliable : Bool) → Numbering → Seat → Now → Type 0
+IsInUse Is true m seat n = Is m seat n
+IsInUse Is false m seat n = IsPlain n
 
 -- what is known of a slot: vacant, or with a machine of which that is known
-abbrev pub IsSlot : (Numbering → ℕ → ℕ → Now → Type 0) → Slot → Terms → Numbering → ℕ → ℕ → Now → Type 0
-IsSlot Is has.Free t m app slot n = IsVacant n × (t.wish ≡ wish.Nothing)
-IsSlot Is has.Held t m app slot n = IsVacant n
-IsSlot Is (has.Open c) t m app slot n = IsInUse Is (is_reliable t.flags) m app slot n
+abbrev pub IsSlot : (Numbering → Seat → Now → Type 0) → Slot → Terms → Numbering → Seat → Now → Type 0
+IsSlot Is has.Free t m seat n = IsVacant n × (t.wish ≡ wish.Nothing)
+IsSlot Is has.Held t m seat n = IsVacant n
+IsSlot Is (has.Open c) t m seat n = IsInUse Is (is_reliable t.flags) m seat n
 
 -- a note is the answer to the close of a slot; it is owed to an application
 abbrev pub is_end : ℕ → Note → Bool
@@ -138,8 +144,8 @@ is_end slot (note.Closed s) = s == slot
 is_end slot _ = false
 
 -- an answer owed to an application is the end of this slot
-abbrev pub is_end_of : ℕ → ℕ → Owed → Bool
-is_end_of app slot o = o.app == app && is_end slot o.note
+abbrev pub is_end_of : Seat → Owed → Bool
+is_end_of seat o = o.app == seat.app && is_end seat.slot o.note
 
 -- how many such answers there are to be
 abbrev pub ends_due : Wish → ℕ
@@ -149,7 +155,7 @@ ends_due wish.Connection = 0
 ends_due wish.End = 0
 
 -- what holds of the ports between two turns
-pub record AreGood (Is : Numbering → ℕ → ℕ → Now → Type 0) (m : Numbering) (ordinals : Ordinals) (books : Books) (p : PlainPorts) : Type 0 where
+pub record AreGood (Is : Numbering → Seat → Now → Type 0) (m : Numbering) (ordinals : Ordinals) (books : Books) (p : PlainPorts) : Type 0 where
   pub few : p.conns.apps ≤ MAX_APPS
   pub conns : length p.conns.slots ≡ p.conns.apps * SLOTS
   pub states : length p.slots ≡ ALL_SLOTS
@@ -157,48 +163,48 @@ pub record AreGood (Is : Numbering → ℕ → ℕ → Now → Type 0) (m : Numb
   pub made : p.made ≡ m.made
   pub owners : (port : ℕ) → IfSome (owner_of p.bound port) (λ o. o.0 < p.conns.apps)
   pub owed : AllByRecursion (IsOwed p.conns.apps) p.owed
-  pub counted : (app slot : ℕ) → app < p.conns.apps → slot < SLOTS → (terms_at p app slot).ordinal ≡ ordinals app slot
-  pub waits : (app : ℕ) (s : PlainStalled) → app < p.conns.apps → stalled_at p app ≡ Some s → (s.slot < SLOTS) × ((machine_at p app s.slot).state ≡ Open)
-  pub ends : (app slot : ℕ) → app < p.conns.apps → slot < SLOTS → count_by (is_end_of app slot) p.owed ≡ ends_due (terms_at p app slot).wish
-  pub over : (app slot : ℕ) → app < p.conns.apps → slot < SLOTS → (terms_at p app slot).wish ≡ wish.Ended → (machine_at p app slot).state ≡ Closed
-  pub slots : (app slot : ℕ) → app < p.conns.apps → slot < SLOTS → IsSlot Is (slot_at p.conns app slot) (terms_at p app slot) m app slot (now_at p books app slot)
+  pub counted : (seat : Seat) → seat.app < p.conns.apps → seat.slot < SLOTS → (terms_at p seat).ordinal ≡ ordinals seat
+  pub waits : (app : ℕ) (s : PlainStalled) → app < p.conns.apps → stalled_at p app ≡ Some s → (s.slot < SLOTS) × ((machine_at p (seat app s.slot)).state ≡ Open)
+  pub ends : (seat : Seat) → seat.app < p.conns.apps → seat.slot < SLOTS → count_by (is_end_of seat) p.owed ≡ ends_due (terms_at p seat).wish
+  pub over : (seat : Seat) → seat.app < p.conns.apps → seat.slot < SLOTS → (terms_at p seat).wish ≡ wish.Ended → (machine_at p seat).state ≡ Closed
+  pub slots : (seat : Seat) → seat.app < p.conns.apps → seat.slot < SLOTS → IsSlot Is (slot_at p.conns seat) (terms_at p seat) m seat (now_at p books seat)
 
 -- a step of the ports keeps that, with what it reports noted in the books
-pub record Comes (Is : Numbering → ℕ → ℕ → Now → Type 0) (m : Numbering) (ordinals : Ordinals) (books : Books) (apps : ℕ) (c : Came) : Type 0 where
+pub record Comes (Is : Numbering → Seat → Now → Type 0) (m : Numbering) (ordinals : Ordinals) (books : Books) (apps : ℕ) (c : Came) : Type 0 where
   pub same : c.ports.conns.apps ≡ apps
   pub new : AreNew apps c.events books
   pub good : AreGood Is m ordinals (noted c.events books) c.ports
 
 -- and so does one that may have made a connection
-pub record ComesWith (Is : Numbering → ℕ → ℕ → Now → Type 0) (m : Numbering) (ordinals : Ordinals) (books : Books) (apps : ℕ) (c : Came) : Type 0 where
+pub record ComesWith (Is : Numbering → Seat → Now → Type 0) (m : Numbering) (ordinals : Ordinals) (books : Books) (apps : ℕ) (c : Came) : Type 0 where
   pub after : Numbering
   pub goes_on : GoesOn m after
   pub comes : Comes Is after ordinals books apps c
 
 -- a reliable connection is on a slot
-pub record IsReliableOn (p : PlainPorts) (app slot : ℕ) : Type 0 where
+pub record IsReliableOn (p : PlainPorts) (seat : Seat) : Type 0 where
   pub connection : Connection
-  pub there : slot_at p.conns app slot ≡ has.Open connection
-  pub reliable : is_reliable (terms_at p app slot).flags ≡ true
+  pub there : slot_at p.conns seat ≡ has.Open connection
+  pub reliable : is_reliable (terms_at p seat).flags ≡ true
 
 -- a packet of an application on such a connection is sent, and the log tells so; or nothing comes of it
-pub record Submits (Is : Numbering → ℕ → ℕ → Now → Type 0) (m : Numbering) (ordinals : Ordinals) (books : Books) (p : PlainPorts) (app slot : ℕ) (b : Content) (c : Came) : Type 0 where
+pub record Submits (Is : Numbering → Seat → Now → Type 0) (m : Numbering) (ordinals : Ordinals) (books : Books) (p : PlainPorts) (seat : Seat) (b : Content) (c : Came) : Type 0 where
   pub same : c.ports.conns.apps ≡ p.conns.apps
-  pub sent : (machine_at p app slot).state ≡ Open → (c.events ≡ event.Sent slot (terms_at p app slot).ordinal ∷ []) × AreGood Is m ordinals (with_sent app slot b.payload books) c.ports
-  pub not_sent : (machine_at p app slot).state ≢ Open → (c.events ≡ event.Discarded why.NoConn ∷ []) × AreGood Is m ordinals books c.ports
+  pub sent : (machine_at p seat).state ≡ Open → (c.events ≡ event.Sent seat.slot (terms_at p seat).ordinal ∷ []) × AreGood Is m ordinals (with_sent seat b.payload books) c.ports
+  pub not_sent : (machine_at p seat).state ≢ Open → (c.events ≡ event.Discarded why.NoConn ∷ []) × AreGood Is m ordinals books c.ports
 
 -- the first answer that is owed is pushed: that to a close ends the slot's connection
 abbrev pub ordinals_after : ℕ → Note → Ordinals → Ordinals
-ordinals_after app (note.Closed slot) ordinals = with_ordinal app slot (ordinals app slot + 1) ordinals
+ordinals_after app (note.Closed slot) ordinals = with_ordinal (seat app slot) (ordinals (seat app slot) + 1) ordinals
 ordinals_after app _ ordinals = ordinals
 
 -- the books once a note was pushed: those of a closed slot are blank
 abbrev pub books_after : ℕ → Note → Books → Books
-books_after app (note.Closed slot) books = with_book app slot blank books
+books_after app (note.Closed slot) books = with_book (seat app slot) blank books
 books_after app _ books = books
 
 -- what an owed answer leaves good, once it is pushed
-pub record Answers (Is : Numbering → ℕ → ℕ → Now → Type 0) (m : Numbering) (ordinals : Ordinals) (books : Books) (apps : ℕ) (o : Owed) (c : Came) : Type 0 where
+pub record Answers (Is : Numbering → Seat → Now → Type 0) (m : Numbering) (ordinals : Ordinals) (books : Books) (apps : ℕ) (o : Owed) (c : Came) : Type 0 where
   pub same : c.ports.conns.apps ≡ apps
   pub quiet : c.events ≡ []
   pub good : AreGood Is m (ordinals_after o.app o.note ordinals) (books_after o.app o.note books) c.ports
@@ -210,35 +216,35 @@ IsAskedSo C p r = is_reliable r.flags ≡ true → (own : ℕ) → own_port_of p
 -- ---- every step of the ports keeps it
 
 -- each step of a node's ports keeps what is known of its machines
-pub record ArePortsKept (o : Origin) (C : Coming) (Is : Numbering → ℕ → ℕ → Now → Type 0) : Type 0 where
-  pub opens : (apps : ℕ) (home : ℕ → ℕ × ℕ × ℕ) → apps ≤ MAX_APPS → AreGood Is (record { made = 0; home = home }) (λ _ _. 0) (λ _ _. blank) (ports_of apps)
+pub record ArePortsKept (o : OwnFlows) (C : Coming) (Is : Numbering → Seat → Now → Type 0) : Type 0 where
+  pub opens : (apps : ℕ) (home : ℕ → Seat × ℕ) → apps ≤ MAX_APPS → AreGood Is (record { made = 0; home = home }) (λ _. 0) (λ _. blank) (ports_of apps)
   pub times : (m : Numbering) (ordinals : Ordinals) (books : Books) (p : PlainPorts) (time : ℕ) → AreGood Is m ordinals books p → Comes Is m ordinals books p.conns.apps (timed time p)
-  pub turns : (m : Numbering) (ordinals : Ordinals) (books : Books) (p : PlainPorts) (app slot : ℕ) → AreGood Is m ordinals books p → AreGood Is m ordinals books (turned app slot p)
+  pub turns : (m : Numbering) (ordinals : Ordinals) (books : Books) (p : PlainPorts) (seat : Seat) → AreGood Is m ordinals books p → AreGood Is m ordinals books (turned seat p)
   pub binds : (m : Numbering) (ordinals : Ordinals) (books : Books) (p : PlainPorts) (app port need : ℕ) → app < p.conns.apps → AreGood Is m ordinals books p → AreGood Is m ordinals books (bind p app port need)
-  pub connects : (m : Numbering) (ordinals : Ordinals) (books : Books) (p : PlainPorts) (app : ℕ) (r : Request) (time : ℕ) → app < p.conns.apps → r.slot < SLOTS → IsAskedSo C p r
-      → AreGood Is m ordinals books p → ComesWith Is m ordinals books p.conns.apps (connect o p app r time)
-  pub closes : (m : Numbering) (ordinals : Ordinals) (books : Books) (p : PlainPorts) (app slot time : ℕ) → app < p.conns.apps → slot < SLOTS → stalled_at p app ≡ None
-      → AreGood Is m ordinals books p → Comes Is m ordinals books p.conns.apps (close p app slot time)
-  pub accepts : (m : Numbering) (ordinals : Ordinals) (books : Books) (p : PlainPorts) (app slot : ℕ) (c : Connection) (prio : Prio) (flags : ℕ) → app < p.conns.apps → slot < SLOTS
-      → slot_at p.conns app slot ≡ has.Free → is_reliable flags ≡ false
-      → AreGood Is m ordinals books p → AreGood Is m ordinals (with_opened app slot (None, None) books) (accepted p app slot c prio flags)
-  pub invites : (m : Numbering) (ordinals : Ordinals) (books : Books) (p : PlainPorts) (app slot : ℕ) (c : Connection) (prio : Prio) (flags : ℕ) (i : Invitation) (time : ℕ) → app < p.conns.apps → slot < SLOTS
-      → slot_at p.conns app slot ≡ has.Free → is_reliable flags ≡ true → has_flag i.head SYN ≡ true → C.invites c flags i.head i.tag
-      → AreGood Is m ordinals books p → ComesWith Is m ordinals books p.conns.apps (invited o p app slot c prio flags i time)
-  pub hands : (m : Numbering) (ordinals : Ordinals) (books : Books) (p : PlainPorts) (app slot : ℕ) (h : RdpHead) (b : Content) (time : ℕ) → app < p.conns.apps → slot < SLOTS
-      → IsReliableOn p app slot → C.fed (connection_in (slot_at p.conns app slot)) (machine_at p app slot) h b.trace.tag b.payload
-      → AreGood Is m ordinals books p → Comes Is m ordinals books p.conns.apps (handing p app slot h b time)
-  pub submits : (m : Numbering) (ordinals : Ordinals) (books : Books) (p : PlainPorts) (app slot : ℕ) (b : Content) (time : ℕ) → app < p.conns.apps → slot < SLOTS
-      → IsReliableOn p app slot → stalled_at p app ≡ None
-      → AreGood Is m ordinals books p → Submits Is m ordinals books p app slot b (submitting p app slot b time)
-  pub owes : (m : Numbering) (ordinals : Ordinals) (books : Books) (p : PlainPorts) (app slot time : ℕ) (j : Job) → app < p.conns.apps → slot < SLOTS → job_of time (machine_at p app slot) ≡ Some j
-      → AreGood Is m ordinals books p → IsReliableOn p app slot × Is m app slot (now_at p books app slot)
-  pub makes : (m : Numbering) (ordinals : Ordinals) (books : Books) (p : PlainPorts) (app slot time : ℕ) (j : Job) → app < p.conns.apps → slot < SLOTS → job_of time (machine_at p app slot) ≡ Some j
-      → AreGood Is m ordinals books p → AreGood Is m ordinals books (making j time app slot p)
-  pub delivers : (m : Numbering) (ordinals : Ordinals) (books : Books) (p : PlainPorts) (app slot time : ℕ) (b : PlainBuffer) → app < p.conns.apps → slot < SLOTS → delivery (machine_at p app slot) ≡ Some b
-      → AreGood Is m ordinals books p → Comes Is m ordinals (with_down app slot b.picture.payload books) p.conns.apps (delivered time app slot (without_packet app slot p))
-  pub keeps : (m : Numbering) (ordinals : Ordinals) (books : Books) (p : PlainPorts) (app slot : ℕ) (b : PlainBuffer) → app < p.conns.apps → slot < SLOTS → delivery (machine_at p app slot) ≡ Some b
-      → AreGood Is m ordinals books p → AreGood Is m ordinals books (kept_again app slot b.picture (without_packet app slot p))
-  pub tells : (m : Numbering) (ordinals : Ordinals) (books : Books) (p : PlainPorts) (app slot : ℕ) → AreGood Is m ordinals books p → AreGood Is m ordinals books (told_down app slot p)
+  pub connects : (m : Numbering) (ordinals : Ordinals) (books : Books) (p : PlainPorts) (r : Request) (time : ℕ) → r.seat.app < p.conns.apps → r.seat.slot < SLOTS → IsAskedSo C p r
+      → AreGood Is m ordinals books p → ComesWith Is m ordinals books p.conns.apps (connect o p r time)
+  pub closes : (m : Numbering) (ordinals : Ordinals) (books : Books) (p : PlainPorts) (seat : Seat) (time : ℕ) → seat.app < p.conns.apps → seat.slot < SLOTS → stalled_at p seat.app ≡ None
+      → AreGood Is m ordinals books p → Comes Is m ordinals books p.conns.apps (close p seat time)
+  pub accepts : (m : Numbering) (ordinals : Ordinals) (books : Books) (p : PlainPorts) (seat : Seat) (c : Connection) (prio : Prio) (flags : ℕ) → seat.app < p.conns.apps → seat.slot < SLOTS
+      → slot_at p.conns seat ≡ has.Free → is_reliable flags ≡ false
+      → AreGood Is m ordinals books p → AreGood Is m ordinals (with_opened seat (None, None) books) (accepted p seat c prio flags)
+  pub invites : (m : Numbering) (ordinals : Ordinals) (books : Books) (p : PlainPorts) (seat : Seat) (c : Connection) (prio : Prio) (flags : ℕ) (i : Invitation) (time : ℕ) → seat.app < p.conns.apps → seat.slot < SLOTS
+      → slot_at p.conns seat ≡ has.Free → is_reliable flags ≡ true → has_flag i.head SYN ≡ true → C.invites c flags i.head i.tag
+      → AreGood Is m ordinals books p → ComesWith Is m ordinals books p.conns.apps (invited o i seat time (accepted p seat c prio flags))
+  pub hands : (m : Numbering) (ordinals : Ordinals) (books : Books) (p : PlainPorts) (seat : Seat) (h : RdpHead) (b : Content) (time : ℕ) → seat.app < p.conns.apps → seat.slot < SLOTS
+      → IsReliableOn p seat → C.fed (connection_in (slot_at p.conns seat)) (machine_at p seat) h b.trace.tag b.payload
+      → AreGood Is m ordinals books p → Comes Is m ordinals books p.conns.apps (handing p seat h b time)
+  pub submits : (m : Numbering) (ordinals : Ordinals) (books : Books) (p : PlainPorts) (seat : Seat) (b : Content) (time : ℕ) → seat.app < p.conns.apps → seat.slot < SLOTS
+      → IsReliableOn p seat → stalled_at p seat.app ≡ None
+      → AreGood Is m ordinals books p → Submits Is m ordinals books p seat b (submitting p seat b time)
+  pub owes : (m : Numbering) (ordinals : Ordinals) (books : Books) (p : PlainPorts) (seat : Seat) (time : ℕ) (j : Job) → seat.app < p.conns.apps → seat.slot < SLOTS → job_of time (machine_at p seat) ≡ Some j
+      → AreGood Is m ordinals books p → IsReliableOn p seat × Is m seat (now_at p books seat)
+  pub makes : (m : Numbering) (ordinals : Ordinals) (books : Books) (p : PlainPorts) (seat : Seat) (time : ℕ) (j : Job) → seat.app < p.conns.apps → seat.slot < SLOTS → job_of time (machine_at p seat) ≡ Some j
+      → AreGood Is m ordinals books p → AreGood Is m ordinals books (making j time seat p)
+  pub delivers : (m : Numbering) (ordinals : Ordinals) (books : Books) (p : PlainPorts) (seat : Seat) (time : ℕ) (b : PlainBuffer) → seat.app < p.conns.apps → seat.slot < SLOTS → delivery (machine_at p seat) ≡ Some b
+      → AreGood Is m ordinals books p → Comes Is m ordinals (with_down seat b.picture.payload books) p.conns.apps (delivered time seat (without_packet seat p))
+  pub keeps : (m : Numbering) (ordinals : Ordinals) (books : Books) (p : PlainPorts) (seat : Seat) (b : PlainBuffer) → seat.app < p.conns.apps → seat.slot < SLOTS → delivery (machine_at p seat) ≡ Some b
+      → AreGood Is m ordinals books p → AreGood Is m ordinals books (kept_again seat b.picture (without_packet seat p))
+  pub tells : (m : Numbering) (ordinals : Ordinals) (books : Books) (p : PlainPorts) (seat : Seat) → AreGood Is m ordinals books p → AreGood Is m ordinals books (told_down seat p)
   pub answers : (m : Numbering) (ordinals : Ordinals) (books : Books) (p : PlainPorts) (first : Owed) (rest : List Owed) → p.owed ≡ first ∷ rest
       → AreGood Is m ordinals books p → Answers Is m ordinals books p.conns.apps first (answered p)

@@ -1,5 +1,6 @@
 -- The reliable prefix: what an application took on a reliable connection is the beginning of what the connection's peer sent.
 use Rattle.std.specs.Prelude.{◌≡◌, ℕ, Some, List, [], ◌++◌, slice_get}
+use Rattle.csp_base.specs.Seat.{seat}
 use Rattle.csp_record.specs.Connections.{openings}
 use Rattle.csp_record.specs.Payloads.{sent, took}
 use Rattle.csp_record.specs.Record.{PlainRecord}
@@ -23,11 +24,11 @@ IsOfFlow r flow app x = IsOpened r flow.0 app x × (x.nth ≡ Some flow.1)
 
 -- what was taken on an opened connection, by its application's log
 abbrev pub took_on : PlainRecord → ℕ → ℕ → Opening → List (List ℕ)
-took_on r node app x = took app x.slot x.ordinal (entries_of r (who.App node app))
+took_on r node app x = took (seat app x.slot) x.ordinal (entries_of r (who.App node app))
 
 -- what was sent on it, by its router's log
 abbrev pub sent_on : PlainRecord → ℕ → ℕ → Opening → List (List ℕ)
-sent_on r node app x = sent app x.slot x.ordinal (entries_of r (who.Router node))
+sent_on r node app x = sent (seat app x.slot) x.ordinal (entries_of r (who.Router node))
 
 -- for each reliable connection with a peer: what was taken on it is a beginning of what was sent on its peer's connection, and nothing was
 -- taken where the peer's never became open

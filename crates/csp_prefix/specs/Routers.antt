@@ -1,6 +1,7 @@
 -- What the run of one router gives, by its own log.
 use Rattle.std.specs.Prelude.{◌≡◌, ◌⊎◌, ℕ, ◌<◌, ◌≤◌, false, Some, List, ⊤, slice_get}
 use Rattle.std.specs.List.{AllByRecursion}
+use Rattle.csp_base.specs.Seat.{seat}
 use Rattle.csp_base.specs.Trace.{no_trace}
 use Rattle.csp_buffer.specs.Content.{Content}
 use Rattle.csp_base.specs.declared.limits.TheConstants.{MAX_APPS, SLOTS}
@@ -63,7 +64,7 @@ pub record IsFlowOf (es : List Entry) (app nth : ℕ) (x : Opening) : Type 0 whe
 
 -- each reliable connection of a node has a number of its own
 abbrev pub AreNumbered : List Entry → Type 0
-AreNumbered es = (app other nth : ℕ) (x y : Opening) → IsFlowOf es app nth x → IsFlowOf es other nth y → (app ≡ other) × (x.slot ≡ y.slot) × (x.ordinal ≡ y.ordinal)
+AreNumbered es = (app other nth : ℕ) (x y : Opening) → IsFlowOf es app nth x → IsFlowOf es other nth y → (seat app x.slot ≡ seat other y.slot) × (x.ordinal ≡ y.ordinal)
 
 -- each connection that became open is of an application that the node has, on one of its slots
 abbrev pub ArePlaced : Facts → List Entry → Type 0
@@ -71,7 +72,7 @@ ArePlaced f es = (app at : ℕ) (x : Opening) → slice_get (openings app es) at
 
 -- flows are, of this node, those that its router's log shows: what was sent on the connection of each number, and its start
 pub record AreShown (f : Facts) (es : List Entry) (flows : Flows) : Type 0 where
-  pub said : (app nth : ℕ) (x : Opening) → IsFlowOf es app nth x → flows.said (f.node, nth) ≡ sent app x.slot x.ordinal es
+  pub said : (app nth : ℕ) (x : Opening) → IsFlowOf es app nth x → flows.said (f.node, nth) ≡ sent (seat app x.slot) x.ordinal es
   pub start : (nth : ℕ) → flows.start (f.node, nth) ≡ start_of f.seed nth
 
 -- a packet came from the inbox
@@ -118,7 +119,7 @@ HasNoStale es = AllByRecursion (λ e. is_stale e ≡ false) (all_events es)
 
 -- on each reliable connection with a peer it delivered a beginning of what the peer's flow says
 abbrev pub DeliversPrefix : Flows → List Entry → Type 0
-DeliversPrefix flows es = (app nth : ℕ) (x : Opening) (peer : ℕ × ℕ) → IsFlowOf es app nth x → x.peer ≡ Some peer → IsBeginning (delivered app x.slot x.ordinal es) (flows.said peer)
+DeliversPrefix flows es = (app nth : ℕ) (x : Opening) (peer : ℕ × ℕ) → IsFlowOf es app nth x → x.peer ≡ Some peer → IsBeginning (delivered (seat app x.slot) x.ordinal es) (flows.said peer)
 
 -- so it is with the log of a router: its connections are on its applications' slots, and have numbers of their own; by flows that are, of its node, those of its log, it sends genuine
 -- packets; and where it hears such alone, and none was stale, it delivers prefixes
