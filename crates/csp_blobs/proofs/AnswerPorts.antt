@@ -40,7 +40,7 @@ use Rattle.csp_rdp.specs.declared.answers.Change.{Change}
 use Rattle.csp_rdp.specs.declared.answers.Change.TheVariants as change
 use Rattle.csp_rdp.specs.declared.answers.State.{State}
 use Rattle.csp_rdp.specs.declared.answers.State.TheVariants as state
-use Rattle.csp_rdp.specs.declared.answers.Cause.{Cause as MachineWhy}
+use Rattle.csp_rdp.specs.declared.answers.Cause.{Cause}
 use Rattle.csp_rdp.specs.declared.answers.Cause.TheVariants as machine_why
 use Rattle.csp_rdp_header.specs.declared.head.RdpHead.{RdpHead}
 
@@ -222,7 +222,7 @@ connects_by wish.Nothing app slot p low e = stays p
 connects_by wish.End app slot p low e = stays p
 connects_by wish.Ended app slot p low e = stays p
 
-refuses_by : (w : Wish) (why : MachineWhy) (app slot : ℕ) (p : PlainPorts) → slot < SLOTS → (terms_at p app slot).wish ≡ w
+refuses_by : (w : Wish) (why : Cause) (app slot : ℕ) (p : PlainPorts) → slot < SLOTS → (terms_at p app slot).wish ≡ w
     → NoMore p (refused_by w why app slot p).ports
 refuses_by wish.Connection why app slot p low e =
     let t : Terms = record (terms_at p app slot) { wish = wish.Nothing; is_down = false } in
@@ -251,7 +251,7 @@ changes change.Down app slot p low = sets p app slot (record (terms_at p app slo
 changes change.Closed app slot p low = closes_by (terms_at p app slot).wish (machine_at p app slot).was_open app slot p low refl
 
 -- the machine of a slot makes a step
-goes : (before : State) (why : MachineWhy) (app slot : ℕ) (r : PlainRdp) (p : PlainPorts) → slot < SLOTS → NoMore p (went before why app slot r p).ports
+goes : (before : State) (why : Cause) (app slot : ℕ) (r : PlainRdp) (p : PlainPorts) → slot < SLOTS → NoMore p (went before why app slot r p).ports
 goes before why app slot r p low =
     let q : PlainPorts = (stepped app slot r p).ports in
     both p q (went before why app slot r p).ports (machines p app slot (Some (rested r))) (changes (change_between before r.state why) app slot q low)

@@ -11,7 +11,7 @@ use Rattle.csp_prefix.specs.Slots.{Book, IsKept, Now, Numbering, after_deliverin
 use Rattle.csp_rdp.specs.Holding.{rested}
 use Rattle.csp_rdp.specs.Jobs.{admitting, closing, delivering, keeping_again, sent, ticked, without_delivery}
 use Rattle.csp_rdp.specs.Machine.{PlainRdp, accepting, connecting}
-use Rattle.csp_rdp.specs.Table.{after_packet as handed}
+use Rattle.csp_rdp.specs.Table.{after_packet}
 use Rattle.csp_rdp.specs.declared.answers.State.{State}
 use Rattle.csp_rdp.specs.declared.answers.State.TheVariants.{Closed, CloseWait, Open, SynRcvd, SynSent}
 use Rattle.csp_rdp_header.specs.declared.head.RdpHead.{RdpHead}
@@ -164,10 +164,10 @@ module _ (o : Origin) (place : ℕ × ℕ × ℕ) (nth : ℕ) (said : List (List
         (λ x. record { past = subst IsPast (sym g.state_is) x.past; sent = x.sent }) i;
     hears = λ m app slot n h tag b time fed shut i.
         let w = hears-handed h tag b time n.machine in
-        goes m app slot n (with_machine (handed h tag b time n.machine) n) (hears_nth h tag b n.machine (handed h tag b time n.machine) w) refl (λ other k. (sender-kept o).hears other app slot n h tag b time fed shut k)
-        (λ x. record { past = hears_past h tag b n.machine (handed h tag b time n.machine) w x.past; sent = x.sent }) i;
+        goes m app slot n (with_machine (after_packet h tag b time n.machine) n) (hears_nth h tag b n.machine (after_packet h tag b time n.machine) w) refl (λ other k. (sender-kept o).hears other app slot n h tag b time fed shut k)
+        (λ x. record { past = hears_past h tag b n.machine (after_packet h tag b time n.machine) w x.past; sent = x.sent }) i;
     opens = λ m app slot n h tag b time fed opening i.
-        let r = handed h tag b time n.machine in
+        let r = after_packet h tag b time n.machine in
         goes m app slot n (after_opening (with_machine r n)) (hears_nth h tag b n.machine r (hears-handed h tag b time n.machine)) refl (λ other k. (sender-kept o).opens other app slot n h tag b time fed opening k)
         (λ x. absurd (past_early n.machine.state (opens-early n.machine.state r.state opening) x.past)) i;
     admits = λ m app slot n b time is_open room waits i.

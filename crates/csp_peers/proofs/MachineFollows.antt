@@ -9,7 +9,7 @@ use Rattle.csp_rdp_window.specs.Receiving.{PlainRecv, confirmed, with_kept, with
 use Rattle.csp_rdp.specs.Holding.{recv_rested, rested}
 use Rattle.csp_rdp.specs.Jobs.{admitting, closing, delivering, keeping_again, sent, ticked, without_delivery}
 use Rattle.csp_rdp.specs.Machine.{PlainRdp}
-use Rattle.csp_rdp.specs.Table.{after_packet as handed}
+use Rattle.csp_rdp.specs.Table.{after_packet}
 use Rattle.csp_rdp.specs.declared.answers.State.{State}
 use Rattle.csp_rdp.specs.declared.answers.State.TheVariants.{Closed, SynSent, SynRcvd, Open, CloseWait}
 use Rattle.csp_prefix.specs.Machines.{whatever}
@@ -105,11 +105,11 @@ steady-kept o Is P s k = record {
   );
   hears = λ m app slot n h tag b time fed shut i. (
     k.hears m app slot n h tag b time fed shut i.0,
-    s.steps m app slot n.machine (handed h tag b time n.machine) n.ordinal (advances-heard h tag b n.machine (handed h tag b time n.machine) (hears-handed h tag b time n.machine)) i.1,
+    s.steps m app slot n.machine (after_packet h tag b time n.machine) n.ordinal (advances-heard h tag b n.machine (after_packet h tag b time n.machine) (hears-handed h tag b time n.machine)) i.1,
   );
   opens = λ m app slot n h tag b time fed opening i. (
     k.opens m app slot n h tag b time fed opening i.0,
-    s.steps m app slot n.machine (handed h tag b time n.machine) n.ordinal (advances-heard h tag b n.machine (handed h tag b time n.machine) (hears-handed h tag b time n.machine)) i.1,
+    s.steps m app slot n.machine (after_packet h tag b time n.machine) n.ordinal (advances-heard h tag b n.machine (after_packet h tag b time n.machine) (hears-handed h tag b time n.machine)) i.1,
   );
   admits = λ m app slot n b time is_open room waits i. (k.admits m app slot n b time is_open room waits i.0, s.steps m app slot n.machine (admitting b time n.machine) n.ordinal (advances-admitting b time n.machine) i.1);
   delays = λ m app slot n payload is_open waits i. (k.delays m app slot n payload is_open waits i.0, i.1);

@@ -16,7 +16,7 @@ use Rattle.csp_rdp_window.specs.Receiving.{PlainRecv, confirmed, without_next}
 use Rattle.csp_rdp.specs.Holding.{recv_rested, rested}
 use Rattle.csp_rdp.specs.Jobs.{closing, delivering, delivery, keeping_again, sent, ticked, without_delivery}
 use Rattle.csp_rdp.specs.Machine.{PlainRdp, flow_of, una_of}
-use Rattle.csp_rdp.specs.Table.{after_packet as handed}
+use Rattle.csp_rdp.specs.Table.{after_packet}
 use Rattle.csp_rdp.specs.declared.answers.State.{State}
 use Rattle.csp_rdp.specs.declared.answers.State.TheVariants.{Closed, SynSent, SynRcvd, Open, CloseWait}
 use Rattle.csp_prefix.specs.Flows.{Flows, IsTrueOf}
@@ -182,12 +182,12 @@ hearer-kept o flows R bound few one short =
       );
       hears = λ m app slot n h tag b time fed shut i. (
         kept.hears m app slot n h tag b time (feeds flows R bound few one short n h tag b.picture.payload fed i.1) shut i.0,
-        peered-heard flows R h tag b n (handed h tag b time n.machine) fed.0 fed.1 fed.3 (hears-handed h tag b time n.machine) i.1,
+        peered-heard flows R h tag b n (after_packet h tag b time n.machine) fed.0 fed.1 fed.3 (hears-handed h tag b time n.machine) i.1,
       );
       opens = λ m app slot n h tag b time fed opening i. (
         kept.opens m app slot n h tag b time (feeds flows R bound few one short n h tag b.picture.payload fed i.1) opening i.0,
-        peered-opened flows R (with_machine (handed h tag b time n.machine) n)
-            (peered-heard flows R h tag b n (handed h tag b time n.machine) fed.0 fed.1 fed.3 (hears-handed h tag b time n.machine) i.1),
+        peered-opened flows R (with_machine (after_packet h tag b time n.machine) n)
+            (peered-heard flows R h tag b n (after_packet h tag b time n.machine) fed.0 fed.1 fed.3 (hears-handed h tag b time n.machine) i.1),
       );
       admits = λ m app slot n b time is_open room waits i. (kept.admits m app slot n b time is_open room waits i.0, record { right = i.1.right; near = i.1.near; fresh = i.1.fresh; alone = i.1.alone });
       delays = λ m app slot n payload is_open waits i. (kept.delays m app slot n payload is_open waits i.0, record { right = i.1.right; near = i.1.near; fresh = i.1.fresh; alone = i.1.alone });

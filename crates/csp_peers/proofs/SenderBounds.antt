@@ -19,7 +19,7 @@ use Rattle.csp_rdp_window.specs.declared.pending.Pending.{Pending}
 use Rattle.csp_rdp.specs.Holding.{rested}
 use Rattle.csp_rdp.specs.Jobs.{admitting, closed_in, closing, delivering, job_of, keeping_again, reset_after, says, sent, syn_in, taken_in, ticked, timed_out, without_delivery}
 use Rattle.csp_rdp.specs.Machine.{PlainRdp, broken, left, owes_rst}
-use Rattle.csp_rdp.specs.Table.{acknowledged, after, entered_from, after_packet as handed, listing, row_of}
+use Rattle.csp_rdp.specs.Table.{acknowledged, after, entered_from, after_packet, listing, row_of}
 use Rattle.csp_rdp.specs.declared.answers.State.{State}
 use Rattle.csp_rdp.specs.declared.answers.State.TheVariants.{Closed, SynSent, SynRcvd, Open, CloseWait}
 use Rattle.csp_rdp.specs.declared.jobs.Job.{Job}
@@ -157,8 +157,8 @@ module _ (top : ℕ) (o : Origin) where
     addressable = i.addressable;
   }
 
-  bounded-handed : (n : Now) (h : RdpHead) (tag : Option Tag) (b : PlainBuffer) (time : ℕ) → IsBounded top o n → IsBounded top o (with_machine (handed h tag b time n.machine) n)
-  bounded-handed n h tag b time i = bounded-on n (handed h tag b time n.machine) (own-heard h tag b n.machine _ (hears-handed h tag b time n.machine))
+  bounded-handed : (n : Now) (h : RdpHead) (tag : Option Tag) (b : PlainBuffer) (time : ℕ) → IsBounded top o n → IsBounded top o (with_machine (after_packet h tag b time n.machine) n)
+  bounded-handed n h tag b time i = bounded-on n (after_packet h tag b time n.machine) (own-heard h tag b n.machine _ (hears-handed h tag b time n.machine))
       (ordered-after (row_of n.machine h b.picture.payload) h tag b time n.machine i.order) i
 
   -- that is told, and else leaves all
@@ -247,7 +247,7 @@ maker-kept top o = record {
   hears = λ m app slot n h tag b time fed shut i. ((sender-kept o).hears m app slot n h tag b time tt shut i.0, bounded-handed top o n h tag b time i.1);
   opens = λ m app slot n h tag b time fed opening i. (
     (sender-kept o).opens m app slot n h tag b time tt opening i.0,
-    bounded-opened top o (with_machine (handed h tag b time n.machine) n) (bounded-handed top o n h tag b time i.1),
+    bounded-opened top o (with_machine (after_packet h tag b time n.machine) n) (bounded-handed top o n h tag b time i.1),
   );
   admits = λ m app slot n b time is_open room waits i. ((sender-kept o).admits m app slot n b time is_open room waits i.0, bounded-admits top o n b time i.1);
   delays = λ m app slot n payload is_open waits i. ((sender-kept o).delays m app slot n payload is_open waits i.0, bounded-delays top o n payload i.1);

@@ -27,7 +27,7 @@ use Rattle.csp_rdp_window.specs.declared.pending.Pending.{Pending}
 use Rattle.csp_rdp.specs.Holding.{rested}
 use Rattle.csp_rdp.specs.Jobs.{admitting, closed_in, closing, delivering, head_for, keeping_again, reset_after, says, sending_index, sent, syn_in, taken_in, ticked, timed_out, without_delivery}
 use Rattle.csp_rdp.specs.Machine.{PlainRdp, broken, left, owes_rst, una_of}
-use Rattle.csp_rdp.specs.Table.{ack_row, acknowledged, after, close_wait_row, data_row, entered_from, after_packet as handed, is_bad_list, listing, open_row, reset_row, row_in, syn_rcvd_row, syn_sent_row}
+use Rattle.csp_rdp.specs.Table.{ack_row, acknowledged, after, close_wait_row, data_row, entered_from, after_packet, is_bad_list, listing, open_row, reset_row, row_in, syn_rcvd_row, syn_sent_row}
 use Rattle.csp_rdp.specs.declared.answers.State.{State}
 use Rattle.csp_rdp.specs.declared.answers.State.TheVariants.{Closed, SynSent, SynRcvd, Open, CloseWait}
 use Rattle.csp_rdp.specs.declared.jobs.Job.{Job}
@@ -296,7 +296,7 @@ module _ (h : RdpHead) (tag : Option Tag) (p : PlainBuffer) (time : ℕ) where
   shifts-in CloseWait r = shifts-waiting r
   shifts-in Closed r = stands (still (at Closed r))
 
-  shifts-handed : (r : PlainRdp) → Shifts h r (handed h tag p time r)
+  shifts-handed : (r : PlainRdp) → Shifts h r (after_packet h tag p time r)
   shifts-handed r = shifts-in r.state r
 
 -- ---- where una comes to
@@ -440,8 +440,8 @@ module _ (H : Tag → Type 0) (nth : ℕ) (peer : ℕ × ℕ) where
               come = λ e f. subst (HasCome H) (sym is_una) (passed hearing acking i t shows (sym same.nth ∙ e) (sym peers ∙ f));
             }
 
-    windowed-handed : (tag : Option Tag) (b : PlainBuffer) (time : ℕ) → IsWindowed H nth peer n.machine → IsWindowed H nth peer (handed h tag b time n.machine)
-    windowed-handed tag b time i = windowed-shifts (handed h tag b time n.machine) (same-heard h tag b n.machine _ (hears-handed h tag b time n.machine)) (shifts-handed h tag b time n.machine) i
+    windowed-handed : (tag : Option Tag) (b : PlainBuffer) (time : ℕ) → IsWindowed H nth peer n.machine → IsWindowed H nth peer (after_packet h tag b time n.machine)
+    windowed-handed tag b time i = windowed-shifts (after_packet h tag b time n.machine) (same-heard h tag b n.machine _ (hears-handed h tag b time n.machine)) (shifts-handed h tag b time n.machine) i
 
 -- ---- all of it
 
