@@ -35,6 +35,7 @@ use Rattle.csp_stack.specs.Turn as turn
 use Rattle.csp_stack.specs.declared.plan.Plan.{Plan}
 use Rattle.csp_stack.specs.declared.plan.Plan.TheVariants as plan
 use Rattle.csp_topology.specs.Parties.{party_steps}
+use Rattle.csp_base.specs.declared.seat.Seat.{Seat}
 
 -- what it pushes to an interface is marked with a next hop
 abbrev pub PushesByHop : OpShown → Type 0
@@ -55,9 +56,9 @@ pushing_hops : (o : Option Leaving) → IfSome o (λ o. GoesByHop o.queue (item.
 pushing_hops None h = tt
 pushing_hops (Some o) h = h
 
-delivering_hops : (o : Option PlainBuffer) (app slot : ℕ) → PushesByHop (turn.delivering o app slot)
-delivering_hops None app slot = tt
-delivering_hops (Some b) app slot = tt
+delivering_hops : (o : Option PlainBuffer) (s : Seat) → PushesByHop (turn.delivering o s)
+delivering_hops None s = tt
+delivering_hops (Some b) s = tt
 
 op_hops : (f : Facts) (s : State) (time : ℕ) (p : Plan) → IsMarking s → PushesByHop (turn.turn_of f s time p).asks
 op_hops f s time plan.Rest h = tt
@@ -66,9 +67,9 @@ op_hops f s time (plan.Push q bytes) h = pushing_hops s.out h.0
 op_hops f s time plan.Hear h = tt
 op_hops f s time (plan.Serve k) h = tt
 op_hops f s time (plan.Reply k) h = replying_hops s.ports.owed
-op_hops f s time (plan.Tell app slot) h = tt
-op_hops f s time (plan.Deliver app slot) h = delivering_hops (delivery (machine_at s.ports app slot)) app slot
-op_hops f s time (plan.Make app slot j) h = tt
+op_hops f s time (plan.Tell seat) h = tt
+op_hops f s time (plan.Deliver seat) h = delivering_hops (delivery (machine_at s.ports seat)) seat
+op_hops f s time (plan.Make seat j) h = tt
 
 -- what comes of what an answer brings, or of nothing
 brought_marks : {X : Type 0} (s : State) (comes : X → Told) (o : Option X) → IsMarking s → ((x : X) → IsTold (comes x)) → IsTold (turn.brought s comes o)
@@ -90,9 +91,9 @@ told_marks (plan.Push q bytes) f s time a h = pushed_or (is_pushed a) _ _ h (bac
 told_marks plan.Hear f s time a h = brought_marks s _ (packet_in (item_in a)) h (λ p. heard_marks f (came_in s p.mark p.buffer) time p h)
 told_marks (plan.Serve k) f s time a h = brought_marks s _ (item_in a) h (λ i. served_marks f s time k i h)
 told_marks (plan.Reply k) f s time a h = pushed_or (is_pushed a) _ _ h (back_marks s (packet_in (item_in a)) h)
-told_marks (plan.Tell app slot) f s time a h = pushed_or (is_pushed a) _ _ h (back_marks s (packet_in (item_in a)) h)
-told_marks (plan.Deliver app slot) f s time a h = pushed_or (is_pushed a) _ _ h (brought_marks s _ (packet_in (item_in a)) h (λ p. h))
-told_marks (plan.Make app slot j) f s time a h = brought_marks s _ (buffer_in a) h (λ b. made_on_marks (slot_at s.ports.conns app slot) j f s app slot time b h)
+told_marks (plan.Tell seat) f s time a h = pushed_or (is_pushed a) _ _ h (back_marks s (packet_in (item_in a)) h)
+told_marks (plan.Deliver seat) f s time a h = pushed_or (is_pushed a) _ _ h (brought_marks s _ (packet_in (item_in a)) h (λ p. h))
+told_marks (plan.Make seat j) f s time a h = brought_marks s _ (buffer_in a) h (λ b. made_on_marks (slot_at s.ports.conns seat) j f s seat time b h)
 
 until_marks : (f : Facts) (s : State) (time : ℕ) (p : Plan) → IsMarking s → IsMarking (turn.turn_of f s time p).until
 until_marks f s time (plan.Push q bytes) h = (tt, h.1)
@@ -101,9 +102,9 @@ until_marks f s time plan.Give h = h
 until_marks f s time plan.Hear h = h
 until_marks f s time (plan.Serve k) h = h
 until_marks f s time (plan.Reply k) h = h
-until_marks f s time (plan.Tell app slot) h = h
-until_marks f s time (plan.Deliver app slot) h = h
-until_marks f s time (plan.Make app slot j) h = h
+until_marks f s time (plan.Tell seat) h = h
+until_marks f s time (plan.Deliver seat) h = h
+until_marks f s time (plan.Make seat j) h = h
 
 -- ---- runs
 

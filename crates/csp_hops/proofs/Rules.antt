@@ -41,6 +41,8 @@ use Rattle.csp_stack.specs.Rules as rules
 use Rattle.csp_stack.specs.Rules.{◌>>=◌, Arrival, Ruling, Decided, Left}
 use Rattle.csp_stack.specs.Serving.{facts_of, reply_in, with_facts}
 use Rattle.csp_stack.specs.Told.{Told, with_ports}
+use Rattle.csp_base.specs.declared.seat.Seat.{Seat}
+use Rattle.csp_base.specs.Seat.{seat}
 
 -- to an interface only what is marked with a next hop
 abbrev pub GoesByHop : QueueId → ItemShown → Type 0
@@ -105,16 +107,16 @@ go_checksum : (c : Bool) (s : State) (p : Arrival) → IsMarking s → IsRuled (
 go_checksum true s p h = go_payload (payload_of p.buffer.payload) s p h
 go_checksum false s p h = tt
 
-go_machine : (o : Option (List ℕ × RdpHead)) (s : State) (app number time : ℕ) (p : Arrival) → IsMarking s → IsTold (rules.to_machine o s app number time p)
-go_machine None s app number time p h = h
-go_machine (Some read) s app number time p h = h
+go_machine : (o : Option (List ℕ × RdpHead)) (s : State) (seat : Seat) (time : ℕ) (p : Arrival) → IsMarking s → IsTold (rules.to_machine o s seat time p)
+go_machine None s seat time p h = h
+go_machine (Some read) s seat time p h = h
 
-go_connection : (s : State) (app number time : ℕ) (p : Arrival) → IsMarking s → IsTold (rules.to_connection s app number time p)
-go_connection s app number time p h = either (is_reliable p.head.flags.0) _ _ (go_machine (parted p.buffer.payload) s app number time p h) (tt, h.1)
+go_connection : (s : State) (seat : Seat) (time : ℕ) (p : Arrival) → IsMarking s → IsTold (rules.to_connection s seat time p)
+go_connection s seat time p h = either (is_reliable p.head.flags.0) _ _ (go_machine (parted p.buffer.payload) s seat time p h) (tt, h.1)
 
 go_by_connection : (at : Option (ℕ × ℕ)) (s : State) (time : ℕ) (p : Arrival) → IsMarking s → IsRuled (rules.by_connection at s time p)
 go_by_connection None s time p h = tt
-go_by_connection (Some at) s time p h = either (rules.is_mixed s at p) _ _ h (either (rules.is_lacking s p) _ _ h (go_connection s at.0 at.1 time p h))
+go_by_connection (Some at) s time p h = either (rules.is_mixed s at p) _ _ h (either (rules.is_lacking s p) _ _ h (go_connection s at time p h))
 
 go_accepting : (free : Option ℕ) (s : State) (app : ℕ) (p : Arrival) → IsMarking s → IsTold (rules.accepting free s app p)
 go_accepting None s app p h = h
@@ -156,18 +158,18 @@ heard_marks f s time p h =
 
 -- ---- from an application
 
-go_on_connection : (reliable : Bool) (c : Connection) (f : Facts) (s : State) (app number time : ℕ) (b : Content) → IsMarking s → IsTold (rules.on_connection reliable c f s app number time b)
-go_on_connection false c f s app number time b h = sent_marks f s (rules.addressed f c (terms_at s.ports app number) b) h
-go_on_connection true c f s app number time b h = h
+go_on_connection : (reliable : Bool) (c : Connection) (f : Facts) (s : State) (seat : Seat) (time : ℕ) (b : Content) → IsMarking s → IsTold (rules.on_connection reliable c f s seat time b)
+go_on_connection false c f s seat time b h = sent_marks f s (rules.addressed f c (terms_at s.ports seat) b) h
+go_on_connection true c f s seat time b h = h
 
-go_slot : (x : Slot) (f : Facts) (s : State) (app number time : ℕ) (b : Content) → IsMarking s → IsTold (rules.by_slot x f s app number time b)
-go_slot slot.Free f s app number time b h = h
-go_slot slot.Held f s app number time b h = h
-go_slot (slot.Open c) f s app number time b h = go_on_connection (is_reliable (terms_at s.ports app number).flags) c f s app number time b h
+go_slot : (x : Slot) (f : Facts) (s : State) (seat : Seat) (time : ℕ) (b : Content) → IsMarking s → IsTold (rules.by_slot x f s seat time b)
+go_slot slot.Free f s seat time b h = h
+go_slot slot.Held f s seat time b h = h
+go_slot (slot.Open c) f s seat time b h = go_on_connection (is_reliable (terms_at s.ports seat).flags) c f s seat time b h
 
 go_mark : (unmarked : Bool) (f : Facts) (s : State) (app mark time : ℕ) (b : Content) → IsMarking s → IsTold (rules.by_mark unmarked f s app mark time b)
 go_mark true f s app mark time b h = sent_marks f s b h
-go_mark false f s app mark time b h = go_slot (slot_at s.ports.conns app mark) f s app mark time b h
+go_mark false f s app mark time b h = go_slot (slot_at s.ports.conns (seat app mark)) f s (seat app mark) time b h
 
 go_request : (f : Facts) (s : State) (app time : ℕ) (n : Note) → IsMarking s → IsTold (rules.requested f s app time n)
 go_request f s app time (note.Bind port need) h = h
@@ -186,8 +188,8 @@ served_marks f s time app (item.Frame x) h = h
 
 -- ---- from the machine of a connection
 
-pub made_on_marks : (x : Slot) (j : Job) (f : Facts) (s : State) (app number time : ℕ) (b : Content) → IsMarking s → IsTold (rules.made_on x j f s app number time b)
-made_on_marks slot.Free j f s app number time b h = h
-made_on_marks slot.Held j f s app number time b h = h
-made_on_marks (slot.Open c) j f s app number time b h =
-    sent_marks f (with_ports s (making j time app number s.ports)) (rules.addressed f c (terms_at s.ports app number) (made_in j time app number b s.ports)) h
+pub made_on_marks : (x : Slot) (j : Job) (f : Facts) (s : State) (seat : Seat) (time : ℕ) (b : Content) → IsMarking s → IsTold (rules.made_on x j f s seat time b)
+made_on_marks slot.Free j f s seat time b h = h
+made_on_marks slot.Held j f s seat time b h = h
+made_on_marks (slot.Open c) j f s seat time b h =
+    sent_marks f (with_ports s (making j time seat s.ports)) (rules.addressed f c (terms_at s.ports seat) (made_in j time seat b s.ports)) h

@@ -71,6 +71,8 @@ use Rattle.csp_stack.specs.Rules.{◌>>=◌, Arrival, Ruling, Decided, Left}
 use Rattle.csp_stack.specs.Sending.{headed, protected}
 use Rattle.csp_stack.specs.Serving.{facts_of, reply_header, reply_in, with_facts}
 use Rattle.csp_stack.specs.Told.{Told, discarded, leaving, ported, with_ports}
+use Rattle.csp_base.specs.declared.seat.Seat.{Seat}
+use Rattle.csp_base.specs.Seat.{seat}
 
 abbrev pub IsTold : Told → Type 0
 IsTold t = IsLightState t.state
@@ -219,27 +221,27 @@ go_checksum true None s p e cut light h = trashed (counting s p.mark count.Recei
 go_checksum true (Some payload) s p e cut light h = let less = cut_short p.buffer.payload payload cut in record { light = omega (arith, less, light); short = λ e. omega (arith, less, light) }
 go_checksum false o s p e cut light h = record { light = light; short = λ is. absurd (false≢true (sym e ∙ is)) }
 
-go_machine : (o : Option (List ℕ × RdpHead)) (s : State) (app number time : ℕ) (p : Arrival) → IfSome o (λ read. length read.0 ≤ length p.buffer.payload) → Arrives p → IsLightState s → IsTold (rules.to_machine o s app number time p)
-go_machine None s app number time p less light h = trashed s p.buffer light h
-go_machine (Some read) s app number time p less light h =
-    ported_light s (handing s.ports app number read.1 (record p.buffer { payload = read.0 }) time)
-    (handing_light s.ports app number read.1 (record p.buffer { payload = read.0 }) time (omega (arith, less, light)) h.ports) h
+go_machine : (o : Option (List ℕ × RdpHead)) (s : State) (seat : Seat) (time : ℕ) (p : Arrival) → IfSome o (λ read. length read.0 ≤ length p.buffer.payload) → Arrives p → IsLightState s → IsTold (rules.to_machine o s seat time p)
+go_machine None s seat time p less light h = trashed s p.buffer light h
+go_machine (Some read) s seat time p less light h =
+    ported_light s (handing s.ports seat read.1 (record p.buffer { payload = read.0 }) time)
+    (handing_light s.ports seat read.1 (record p.buffer { payload = read.0 }) time (omega (arith, less, light)) h.ports) h
 
-go_connection : (s : State) (app number time : ℕ) (p : Arrival) → Arrives p → IsLightState s → IsTold (rules.to_connection s app number time p)
-go_connection s app number time p light h =
-    either (is_reliable p.head.flags.0) (rules.to_machine (parted p.buffer.payload) s app number time p) (leaving s (rules.to_slot app number p.buffer))
-    (go_machine (parted p.buffer.payload) s app number time p (parted_short p.buffer.payload) light h) (leaves s (rules.to_slot app number p.buffer) light h)
+go_connection : (s : State) (seat : Seat) (time : ℕ) (p : Arrival) → Arrives p → IsLightState s → IsTold (rules.to_connection s seat time p)
+go_connection s seat time p light h =
+    either (is_reliable p.head.flags.0) (rules.to_machine (parted p.buffer.payload) s seat time p) (leaving s (rules.to_slot seat p.buffer))
+    (go_machine (parted p.buffer.payload) s seat time p (parted_short p.buffer.payload) light h) (leaves s (rules.to_slot seat p.buffer) light h)
 
 go_by_connection : (at : Option (ℕ × ℕ)) (s : State) (time : ℕ) (p : Arrival) → IsCut p → IsLightState s → IsRuled IsCut (rules.by_connection at s time p)
 go_by_connection None s time p cut h = cut
 go_by_connection (Some at) s time p cut h =
-    let required = if rules.is_lacking s p then discarded s why.Required p.buffer else rules.to_connection s at.0 at.1 time p in
+    let required = if rules.is_lacking s p then discarded s why.Required p.buffer else rules.to_connection s at time p in
     either (rules.is_mixed s at p) (discarded s why.Mixed p.buffer) required (trashed s p.buffer cut.light h)
-    (either (rules.is_lacking s p) (discarded s why.Required p.buffer) (rules.to_connection s at.0 at.1 time p) (trashed s p.buffer cut.light h) (go_connection s at.0 at.1 time p cut.light h))
+    (either (rules.is_lacking s p) (discarded s why.Required p.buffer) (rules.to_connection s at time p) (trashed s p.buffer cut.light h) (go_connection s at time p cut.light h))
 
 go_accepting : (free : Option ℕ) (s : State) (app : ℕ) (p : Arrival) → Arrives p → IsLightState s → IsTold (rules.accepting free s app p)
 go_accepting None s app p light h = trashed s p.buffer light h
-go_accepting (Some number) s app p light h = record { ports = accepted_light s.ports app number (rules.connection_of p.head) p.head.prio (rules.answer_flags p.head) h.ports; trash = h.trash; out = light; stats = h.stats }
+go_accepting (Some number) s app p light h = record { ports = accepted_light s.ports (seat app number) (rules.connection_of p.head) p.head.prio (rules.answer_flags p.head) h.ports; trash = h.trash; out = light; stats = h.stats }
 
 -- the window that a packet asks for is one that a connection may have
 checked_narrow : (o : Options) → IfOk (options.checked o) (λ o. o.window ≤ 20)
@@ -276,8 +278,8 @@ go_inviting : (i : Result Invitation Discard) (free : Option ℕ) (f : Facts) (s
 go_inviting (Err reason) free f s app time p narrow light h = trashed s p.buffer light h
 go_inviting (Ok i) None f s app time p narrow light h = trashed s p.buffer light h
 go_inviting (Ok i) (Some number) f s app time p narrow light h =
-    let c = invited (origin_of f) s.ports app number (rules.connection_of p.head) p.head.prio (rules.answer_flags p.head) i time in
-    let came = invited_light (origin_of f) s.ports app number (rules.connection_of p.head) p.head.prio (rules.answer_flags p.head) i time narrow h.ports in
+    let c = invited (origin_of f) s.ports (seat app number) (rules.connection_of p.head) p.head.prio (rules.answer_flags p.head) i time in
+    let came = invited_light (origin_of f) s.ports (seat app number) (rules.connection_of p.head) p.head.prio (rules.answer_flags p.head) i time narrow h.ports in
     trashed (ported s c).state p.buffer light (ported_light s c came h)
 
 go_opening : (app : ℕ) (f : Facts) (s : State) (time : ℕ) (p : Arrival) → Arrives p → IsLightState s → IsTold (rules.opening app f s time p)
@@ -324,18 +326,18 @@ heard_light f s time p are light h =
 
 -- ---- from an application
 
-go_on_connection : (reliable : Bool) (c : Connection) (f : Facts) (s : State) (app number time : ℕ) (b : Content) → IsData b → IsLightState s → IsTold (rules.on_connection reliable c f s app number time b)
-go_on_connection false c f s app number time b data' h = sent_light f s (rules.addressed f c (terms_at s.ports app number) b) (headed_light (rules.header_for f c (terms_at s.ports app number)) b (omega (arith, data'))) h
-go_on_connection true c f s app number time b data' h = ported_light s (submitting s.ports app number b time) (submitting_light s.ports app number b time data' h.ports) h
+go_on_connection : (reliable : Bool) (c : Connection) (f : Facts) (s : State) (seat : Seat) (time : ℕ) (b : Content) → IsData b → IsLightState s → IsTold (rules.on_connection reliable c f s seat time b)
+go_on_connection false c f s seat time b data' h = sent_light f s (rules.addressed f c (terms_at s.ports seat) b) (headed_light (rules.header_for f c (terms_at s.ports seat)) b (omega (arith, data'))) h
+go_on_connection true c f s seat time b data' h = ported_light s (submitting s.ports seat b time) (submitting_light s.ports seat b time data' h.ports) h
 
-go_slot : (x : Slot) (f : Facts) (s : State) (app number time : ℕ) (b : Content) → IsData b → IsLightState s → IsTold (rules.by_slot x f s app number time b)
-go_slot slot.Free f s app number time b data' h = trashed s b (omega (arith, data')) h
-go_slot slot.Held f s app number time b data' h = trashed s b (omega (arith, data')) h
-go_slot (slot.Open c) f s app number time b data' h = go_on_connection (is_reliable (terms_at s.ports app number).flags) c f s app number time b data' h
+go_slot : (x : Slot) (f : Facts) (s : State) (seat : Seat) (time : ℕ) (b : Content) → IsData b → IsLightState s → IsTold (rules.by_slot x f s seat time b)
+go_slot slot.Free f s seat time b data' h = trashed s b (omega (arith, data')) h
+go_slot slot.Held f s seat time b data' h = trashed s b (omega (arith, data')) h
+go_slot (slot.Open c) f s seat time b data' h = go_on_connection (is_reliable (terms_at s.ports seat).flags) c f s seat time b data' h
 
 go_mark : (unmarked : Bool) (f : Facts) (s : State) (app mark time : ℕ) (b : Content) → IsData b → IsLightState s → IsTold (rules.by_mark unmarked f s app mark time b)
 go_mark true f s app mark time b data' h = sent_light f s b (omega (arith, data')) h
-go_mark false f s app mark time b data' h = go_slot (slot_at s.ports.conns app mark) f s app mark time b data' h
+go_mark false f s app mark time b data' h = go_slot (slot_at s.ports.conns (seat app mark)) f s (seat app mark) time b data' h
 
 bound_light : (can : Bool) (o : Option (ℕ × ℕ)) (p : PlainPorts) (app port need : ℕ) → ArePorts p → ArePorts (bind_by can o p app port need)
 bound_light false o p app port need h = h
@@ -347,7 +349,7 @@ go_request f s app time (note.Bind port need) are h = record { ports = bound_lig
 go_request f s app time (note.Connect number dest port prio flags from) are h =
     let r : Request = record { slot = number; dest = dest; port = port; prio = prio; flags = flags; from = from } in
     ported_light s (connect (origin_of f) s.ports app r time) (connect_light (origin_of f) s.ports app r time are.window h.ports) h
-go_request f s app time (note.Close number) are h = ported_light s (close s.ports app number time) (close_light s.ports app number time h.ports) h
+go_request f s app time (note.Close number) are h = ported_light s (close s.ports (seat app number) time) (close_light s.ports (seat app number) time h.ports) h
 go_request f s app time note.Bound are h = h
 go_request f s app time (note.Connected number) are h = h
 go_request f s app time (note.Refused reason) are h = h
@@ -361,11 +363,11 @@ served_light f s time app (item.Frame x) are data' h = h
 
 -- ---- from the machine of a connection
 
-pub made_on_light : (x : Slot) (j : Job) (f : Facts) (s : State) (app number time : ℕ) (b : Content) → IsLight b → IsLightState s → IsTold (rules.made_on x j f s app number time b)
-made_on_light slot.Free j f s app number time b light h = trashed s b light h
-made_on_light slot.Held j f s app number time b light h = trashed s b light h
-made_on_light (slot.Open c) j f s app number time b light h =
-    let t = with_ports s (making j time app number s.ports) in
-    sent_light f t (rules.addressed f c (terms_at s.ports app number) (made_in j time app number b s.ports))
-    (headed_light (rules.header_for f c (terms_at s.ports app number)) (made_in j time app number b s.ports) (made_light j time app number b s.ports h.ports))
-    (record { ports = making_light j time app number s.ports h.ports; trash = h.trash; out = h.out; stats = h.stats })
+pub made_on_light : (x : Slot) (j : Job) (f : Facts) (s : State) (seat : Seat) (time : ℕ) (b : Content) → IsLight b → IsLightState s → IsTold (rules.made_on x j f s seat time b)
+made_on_light slot.Free j f s seat time b light h = trashed s b light h
+made_on_light slot.Held j f s seat time b light h = trashed s b light h
+made_on_light (slot.Open c) j f s seat time b light h =
+    let t = with_ports s (making j time seat s.ports) in
+    sent_light f t (rules.addressed f c (terms_at s.ports seat) (made_in j time seat b s.ports))
+    (headed_light (rules.header_for f c (terms_at s.ports seat)) (made_in j time seat b s.ports) (made_light j time seat b s.ports h.ports))
+    (record { ports = making_light j time seat s.ports h.ports; trash = h.trash; out = h.out; stats = h.stats })
