@@ -1,8 +1,10 @@
 -- What a router makes of a packet or an item: what is to go out to an interface is marked with a next hop, and the table leads by addresses.
 use Rattle.std.proofs.Common.{ℕ, ◌==◌, Bool, true, false, List, Option, None, Some, Result, Ok, Err}
 use Rattle.std.specs.Prelude.{⊤, IfSome, if◌then◌else◌}
+use Rattle.csp_base.specs.Seat.{seat}
+use Rattle.csp_base.specs.declared.seat.Seat.{Seat}
 use Rattle.csp_buffer.specs.Content.{Content}
-use Rattle.csp_conn.specs.Opening.{first_free}
+use Rattle.csp_conn.specs.Opening.{free_seat}
 use Rattle.csp_conn.specs.PlainConns.{slot_at}
 use Rattle.csp_conn.specs.declared.slot.Connection.{Connection}
 use Rattle.csp_conn.specs.declared.slot.Slot.{Slot}
@@ -36,13 +38,11 @@ use Rattle.csp_service.specs.declared.answers.Served.TheVariants.{NoService, Ref
 use Rattle.csp_stack.proofs.Public.{by_rest, heard_here}
 use Rattle.csp_stack.specs.Comes.{heard_at_port, heard_at_socket, heard_elsewhere}
 use Rattle.csp_stack.specs.Readings.{is_checked, is_here, is_secured}
-use Rattle.csp_stack.specs.Router.{Facts, State}
+use Rattle.csp_stack.specs.Router.{Facts, State, router}
 use Rattle.csp_stack.specs.Rules as rules
 use Rattle.csp_stack.specs.Rules.{◌>>=◌, Arrival, Ruling, Decided, Left}
 use Rattle.csp_stack.specs.Serving.{facts_of, reply_in, with_facts}
 use Rattle.csp_stack.specs.Told.{Told, with_ports}
-use Rattle.csp_base.specs.declared.seat.Seat.{Seat}
-use Rattle.csp_base.specs.Seat.{seat}
 
 -- to an interface only what is marked with a next hop
 abbrev pub GoesByHop : QueueId → ItemShown → Type 0
@@ -114,23 +114,23 @@ go_machine (Some read) s seat time p h = h
 go_connection : (s : State) (seat : Seat) (time : ℕ) (p : Arrival) → IsMarking s → IsTold (rules.to_connection s seat time p)
 go_connection s seat time p h = either (is_reliable p.head.flags.0) _ _ (go_machine (parted p.buffer.payload) s seat time p h) (tt, h.1)
 
-go_by_connection : (at : Option (ℕ × ℕ)) (s : State) (time : ℕ) (p : Arrival) → IsMarking s → IsRuled (rules.by_connection at s time p)
+go_by_connection : (found : Option Seat) (s : State) (time : ℕ) (p : Arrival) → IsMarking s → IsRuled (rules.by_connection found s time p)
 go_by_connection None s time p h = tt
-go_by_connection (Some at) s time p h = either (rules.is_mixed s at p) _ _ h (either (rules.is_lacking s p) _ _ h (go_connection s at time p h))
+go_by_connection (Some seat) s time p h = either (rules.is_mixed s seat p) _ _ h (either (rules.is_lacking s p) _ _ h (go_connection s seat time p h))
 
-go_accepting : (free : Option ℕ) (s : State) (app : ℕ) (p : Arrival) → IsMarking s → IsTold (rules.accepting free s app p)
-go_accepting None s app p h = h
-go_accepting (Some number) s app p h = (tt, h.1)
+go_accepting : (free : Option Seat) (s : State) (p : Arrival) → IsMarking s → IsTold (rules.accepting free s p)
+go_accepting None s p h = h
+go_accepting (Some seat) s p h = (tt, h.1)
 
-go_inviting : (i : Result Invitation Discard) (free : Option ℕ) (f : Facts) (s : State) (app time : ℕ) (p : Arrival) → IsMarking s → IsTold (rules.inviting i free f s app time p)
-go_inviting (Err reason) free f s app time p h = h
-go_inviting (Ok i) None f s app time p h = h
-go_inviting (Ok i) (Some number) f s app time p h = h
+go_inviting : (i : Result Invitation Discard) (free : Option Seat) (f : Facts) (s : State) (time : ℕ) (p : Arrival) → IsMarking s → IsTold (rules.inviting i free (router f s) time p)
+go_inviting (Err reason) free f s time p h = h
+go_inviting (Ok i) None f s time p h = h
+go_inviting (Ok i) (Some seat) f s time p h = h
 
 go_opening : (app : ℕ) (f : Facts) (s : State) (time : ℕ) (p : Arrival) → IsMarking s → IsTold (rules.opening app f s time p)
 go_opening app f s time p h =
-    let free = first_free s.ports.conns app in
-    either (is_reliable p.head.flags.0) _ _ (go_inviting (rules.invitation_of p.buffer) free f s app time p h) (go_accepting free s app p h)
+    let free = free_seat s.ports.conns app in
+    either (is_reliable p.head.flags.0) _ _ (go_inviting (rules.invitation_of p.buffer) free f s time p h) (go_accepting free s p h)
 
 go_by_socket : (owner : Option (ℕ × ℕ)) (f : Facts) (s : State) (time : ℕ) (p : Arrival) → IsMarking s → IsRuled (rules.by_socket owner f s time p)
 go_by_socket None f s time p h = tt
@@ -152,24 +152,23 @@ heard_marks f s time p h =
     go_on (rules.for_this_node f s p) (λ p. heard_here f s time p) (go_unless (is_here f.addr p.head) _ p (forwarded_marks (route_of s.routes p.head.dst) s p (route_marks s.routes p.head.dst h.1) h)) (λ p.
     go_on (rules.not_secured s p) (λ p. by_rest f s time p) (go_if (is_secured p.head) _ p h) (λ p.
     go_on (rules.without_checksum s p) (λ p. heard_at_port f s time p) (go_checksum (is_checked p.head) s p h) (λ p.
-    go_on (rules.of_no_connection s time p) (λ p. heard_at_socket f s time p) (go_by_connection (rules.slot_of s p) s time p h) (λ p.
+    go_on (rules.of_no_connection s time p) (λ p. heard_at_socket f s time p) (go_by_connection (rules.seat_for s p) s time p h) (λ p.
     go_on (rules.to_no_socket f s time p) (λ p. heard_elsewhere f s time p) (go_by_socket (rules.owner_for s p) f s time p h) (λ p.
     go_on (rules.not_reliable s p) (λ p. rules.by_service f s time p) (go_if (is_reliable p.head.flags.0) _ p h) (λ p. go_service f s time p h))))))
 
 -- ---- from an application
 
-go_on_connection : (reliable : Bool) (c : Connection) (f : Facts) (s : State) (seat : Seat) (time : ℕ) (b : Content) → IsMarking s → IsTold (rules.on_connection reliable c f s seat time b)
-go_on_connection false c f s seat time b h = sent_marks f s (rules.addressed f c (terms_at s.ports seat) b) h
-go_on_connection true c f s seat time b h = h
+go_on_connection : (c : Connection) (f : Facts) (s : State) (seat : Seat) (time : ℕ) (b : Content) → IsMarking s → IsTold (rules.on_connection c (router f s) seat time b)
+go_on_connection c f s seat time b h = either (is_reliable (terms_at s.ports seat).flags) _ _ h (sent_marks f s (rules.addressed f c (terms_at s.ports seat) b) h)
 
-go_slot : (x : Slot) (f : Facts) (s : State) (seat : Seat) (time : ℕ) (b : Content) → IsMarking s → IsTold (rules.by_slot x f s seat time b)
+go_slot : (x : Slot) (f : Facts) (s : State) (seat : Seat) (time : ℕ) (b : Content) → IsMarking s → IsTold (rules.by_slot x (router f s) seat time b)
 go_slot slot.Free f s seat time b h = h
 go_slot slot.Held f s seat time b h = h
-go_slot (slot.Open c) f s seat time b h = go_on_connection (is_reliable (terms_at s.ports seat).flags) c f s seat time b h
+go_slot (slot.Open c) f s seat time b h = go_on_connection c f s seat time b h
 
-go_mark : (unmarked : Bool) (f : Facts) (s : State) (app mark time : ℕ) (b : Content) → IsMarking s → IsTold (rules.by_mark unmarked f s app mark time b)
-go_mark true f s app mark time b h = sent_marks f s b h
-go_mark false f s app mark time b h = go_slot (slot_at s.ports.conns (seat app mark)) f s (seat app mark) time b h
+go_mark : (unmarked : Bool) (f : Facts) (s : State) (seat : Seat) (time : ℕ) (b : Content) → IsMarking s → IsTold (rules.by_mark unmarked (router f s) seat time b)
+go_mark true f s seat time b h = sent_marks f s b h
+go_mark false f s seat time b h = go_slot (slot_at s.ports.conns seat) f s seat time b h
 
 go_request : (f : Facts) (s : State) (app time : ℕ) (n : Note) → IsMarking s → IsTold (rules.requested f s app time n)
 go_request f s app time (note.Bind port need) h = h
@@ -182,13 +181,13 @@ go_request f s app time (note.Closed number) h = h
 go_request f s app time (note.Down number) h = h
 
 pub served_marks : (f : Facts) (s : State) (time app : ℕ) (i : ItemShown) → IsMarking s → IsTold (rules.served f s time app i)
-served_marks f s time app (item.Packet mark b) h = go_mark (mark == UNMARKED) f s app mark time b h
+served_marks f s time app (item.Packet mark b) h = go_mark (mark == UNMARKED) f s (seat app mark) time b h
 served_marks f s time app (item.Note n) h = go_request f s app time n h
 served_marks f s time app (item.Frame x) h = h
 
 -- ---- from the machine of a connection
 
-pub made_on_marks : (x : Slot) (j : Job) (f : Facts) (s : State) (seat : Seat) (time : ℕ) (b : Content) → IsMarking s → IsTold (rules.made_on x j f s seat time b)
+pub made_on_marks : (x : Slot) (j : Job) (f : Facts) (s : State) (seat : Seat) (time : ℕ) (b : Content) → IsMarking s → IsTold (rules.made_on x (seat, j) (router f s) time b)
 made_on_marks slot.Free j f s seat time b h = h
 made_on_marks slot.Held j f s seat time b h = h
 made_on_marks (slot.Open c) j f s seat time b h =

@@ -2,29 +2,31 @@
 use Rattle.std.proofs.Common.{length-append, suc, zero, ◌≡◌, ℕ, ◌+◌, ◌*◌, ◌≤◌, Bool, true, false, List, [], ◌∷◌, ◌++◌, length, Option, None, Some, refl, sym, ap, ◌∙◌, subst, arith, get_or}
 use Rattle.std.proofs.lemmas.List.Elements.{All-append, All-cons, All-nil, All-replicate, All-set}
 use Rattle.std.specs.List.{All, range_with_len}
-use Rattle.std.specs.Prelude.{IfSome, slice_set, unwrap_or, ◌/◌, ◌%◌}
+use Rattle.std.specs.Option.{option_map}
+use Rattle.std.specs.Prelude.{IfSome, if◌then◌else◌, slice_set, unwrap_or}
+use Rattle.csp_base.specs.Seat.{seat}
+use Rattle.csp_base.specs.declared.seat.Seat.{Seat}
 use Rattle.csp_base.specs.declared.priority.Prio.{Prio}
 use Rattle.csp_buffer.specs.Content.{Content}
 use Rattle.csp_buffer.specs.PlainBuffer.{PlainBuffer}
 use Rattle.csp_conn.specs.Opening.{is_refused, opened, own_port_of}
-use Rattle.csp_conn.specs.PlainConns.{place_of, slot_at, with_slot}
+use Rattle.csp_conn.specs.PlainConns.{place_of, seat_of, slot_at, with_slot}
 use Rattle.csp_conn.specs.Slots.{between, is_free}
 use Rattle.csp_base.specs.declared.limits.TheConstants.{MAX_APPS, SLOTS, ALL_SLOTS}
 use Rattle.csp_conn.specs.declared.slot.Connection.{Connection}
-use Rattle.csp_conn.specs.declared.slot.Slot.TheVariants.{Free, Held, Open as Opened}
-use Rattle.csp_conn.specs.declared.slot.Slot.{Slot}
+use Rattle.csp_conn.specs.declared.slot.Slot.TheVariants as has
 use Rattle.csp_log.specs.declared.event.Discard.TheVariants as why
 use Rattle.csp_log.specs.declared.note.Note.TheVariants as note
 use Rattle.csp_log.specs.declared.note.Note.{Note}
 use Rattle.csp_ports.proofs.Public.{all_or, by_dropped, by_settled, machine_listed, machines_of_machine, machines_of_terms}
-use Rattle.csp_ports.specs.Asking.{is_reliable, answered, answered_by, close, close_by, connect, connect_by, ending_in, freed_by, held_by, joined, linked}
+use Rattle.csp_ports.specs.Asking.{answered, answered_by, asking, close, close_by, connect, ending_in, freed_by, held_by, is_reliable, joined, linked, plain}
 use Rattle.csp_ports.specs.Came.{Came, come, discarding, pictures, then}
 use Rattle.csp_ports.specs.Packets.{accepted, admitting_by, back_by, handing, invited, submitting, submitting_in}
 use Rattle.csp_ports.specs.PlainPorts.{PlainPorts, PlainStalled, anywhere, has_machine, machine_at, machine_in, machines_of, ports_of, stalled_at, start_of, state_at, terms_at, untouched, wishing, with_machine, with_machine_or, with_stalled, with_terms, is_closing}
-use Rattle.csp_ports.specs.Steps.{changed, closed_by, connected_by, dropped, dropped_of, freed, has_room, refused, refused_by, settled, stepped, timed, timed_at, timed_in, went, where_machine}
+use Rattle.csp_ports.specs.Steps.{changed, closed_by, connected_by, dropped, dropped_of, freed, has_room, refused, refused_by, replaced, settled, stepped, timed, timed_at, timed_in, went, where_machine}
 use Rattle.csp_ports.specs.Tasks.{delivered, kept_again, made_in, making, told_down, without_packet}
 use Rattle.csp_ports.specs.declared.handing.Invitation.{Invitation}
-use Rattle.csp_ports.specs.declared.origin.Origin.{Origin}
+use Rattle.csp_ports.specs.declared.flows.OwnFlows.{OwnFlows}
 use Rattle.csp_ports.specs.declared.owed.Owed.{Owed}
 use Rattle.csp_ports.specs.declared.request.Request.{Request}
 use Rattle.csp_ports.specs.declared.terms.SlotState.{SlotState}
@@ -51,8 +53,6 @@ use Rattle.csp_sizes.proofs.LightHolding.{data_light, held_light, unneeded_light
 use Rattle.csp_sizes.proofs.LightMachines.{accepting_light, admitting_light, again_light, back_light, closing_light, connecting_light, delivering_light, handed_light, idle_light, rested_light, sent_light, taken_light, ticked_light}
 use Rattle.csp_sizes.proofs.LightSays.{says_short}
 use Rattle.csp_sizes.specs.Light.{ArePorts, IsData, IsLight, IsLightMachine}
-use Rattle.csp_base.specs.declared.seat.Seat.{Seat}
-use Rattle.csp_base.specs.Seat.{seat}
 
 -- what comes of a step of ports: they are light, and what they let go
 pub record Comes (c : Came) : Type 0 where
@@ -111,8 +111,8 @@ let_go s p h = held_light (machine_at p s) (machine_light p s h).sized
 
 freed_light : (ordinal : ℕ) (s : Seat) (p : PlainPorts) → ArePorts p → Comes (freed ordinal s p)
 freed_light ordinal s p h =
-    let q : PlainPorts = with_terms (record p { conns = with_slot p.conns s Free }) s (record (terms_at p s) { wish = wish.Nothing; is_down = false; ordinal = ordinal }) in
-    let g : ArePorts q = with_terms_light (record p { conns = with_slot p.conns s Free }) s (record (terms_at p s) { wish = wish.Nothing; is_down = false; ordinal = ordinal }) h in
+    let q : PlainPorts = with_terms (record p { conns = with_slot p.conns s has.Free }) s (record (terms_at p s) { wish = wish.Nothing; is_down = false; ordinal = ordinal }) in
+    let g : ArePorts q = with_terms_light (record p { conns = with_slot p.conns s has.Free }) s (record (terms_at p s) { wish = wish.Nothing; is_down = false; ordinal = ordinal }) h in
     record { ports = with_machine_or_light q s None idle_light g; loose = let_go s q g }
 
 connected_light : (w : Wish) (s : Seat) (p : PlainPorts) → ArePorts p → ArePorts (connected_by w s p)
@@ -237,37 +237,38 @@ submitting_light p s b time short h = submitting_in_light (machine_at p s).state
 
 pub accepted_light : (p : PlainPorts) (s : Seat) (c : Connection) (prio : Prio) (flags : ℕ) → ArePorts p → ArePorts (accepted p s c prio flags)
 accepted_light p s c prio flags h =
-    with_terms_light (record p { conns = with_slot p.conns s (Opened c) }) s (record (terms_at p s) { prio = prio; flags = flags; wish = wish.Nothing; is_down = false }) h
+    with_terms_light (record p { conns = with_slot p.conns s (has.Open c) }) s (record (terms_at p s) { prio = prio; flags = flags; wish = wish.Nothing; is_down = false }) h
 
-pub invited_light : (o : Origin) (p : PlainPorts) (s : Seat) (c : Connection) (prio : Prio) (flags : ℕ) (i : Invitation) (time : ℕ) → i.options.window ≤ 20 → ArePorts p
-    → Comes (invited o p s c prio flags i time)
-invited_light o p s c prio flags i time narrow h =
-    let q : PlainPorts = record (accepted p s c prio flags) { made = p.made + 1 } in
-    let g : ArePorts q = accepted_light p s c prio flags h in
-    record { ports = with_machine_light q s _ (accepting_light (start_of o.seed p.made) i.options i.head.seq.0 i.tag o.node p.made time narrow) g; loose = let_go s q g }
+-- a slot's machine that begins
+begun_light : (s : Seat) (r : PlainRdp) (p : PlainPorts) → IsLightMachine r → ArePorts p → Comes (replaced s (Some r) (record p { made = p.made + 1 }))
+begun_light s r p light h = record { ports = with_machine_light p s r light h; loose = let_go s p h }
+
+pub invited_light : (o : OwnFlows) (i : Invitation) (s : Seat) (time : ℕ) (p : PlainPorts) → i.options.window ≤ 20 → ArePorts p → Comes (invited o i s time p)
+invited_light o i s time p narrow h = begun_light s _ p (accepting_light (start_of o.seed p.made) i.options i.head.seq.0 i.tag o.node p.made time narrow) h
 
 -- ---- what applications ask
 
-linked_light : (w : Wish) (p : PlainPorts) (app : ℕ) (r : Request) (own : ℕ) → ArePorts p → ArePorts (linked w p app r own)
-linked_light w p app r own h =
-    with_terms_light (record p { conns = opened p.conns (seat app r.slot) (between r.dest r.port own) r.from }) (seat app r.slot) (record (terms_at p (seat app r.slot)) { prio = r.prio; flags = r.flags; wish = w; is_down = false }) h
+linked_light : (w : Wish) (p : PlainPorts) (r : Request) (own : ℕ) → ArePorts p → ArePorts (linked w p r own)
+linked_light w p r own h =
+    with_terms_light (record p { conns = opened p.conns r.seat (between r.dest r.port own) r.from }) r.seat (record (terms_at p r.seat) { prio = r.prio; flags = r.flags; wish = w; is_down = false }) h
 
-joined_light : (reliable : Bool) (o : Origin) (p : PlainPorts) (app : ℕ) (r : Request) (own time : ℕ) → o.options.window ≤ 20 → ArePorts p → Comes (joined reliable o p app r own time)
-joined_light false o p app r own time narrow h = record { ports = linked_light wish.Nothing p app r own h; loose = All-nil IsLight }
-joined_light true o p app r own time narrow h =
-    let q : PlainPorts = record (linked wish.Connection p app r own) { made = p.made + 1 } in
-    let g : ArePorts q = linked_light wish.Connection p app r own h in
-    record { ports = with_machine_light q (seat app r.slot) _ (connecting_light (start_of o.seed p.made) o.options o.node p.made time narrow) g; loose = let_go (seat app r.slot) q g }
+either : (b : Bool) (c d : Came) → Comes c → Comes d → Comes (if b then c else d)
+either true c d one other = one
+either false c d one other = other
 
-connect_by_light : (s : Slot) (refused : Bool) (own : Option ℕ) (o : Origin) (p : PlainPorts) (app : ℕ) (r : Request) (time : ℕ) → o.options.window ≤ 20 → ArePorts p → Comes (connect_by s refused own o p app r time)
-connect_by_light Free true own o p app r time narrow h = record { ports = h; loose = All-nil IsLight }
-connect_by_light Free false (Some own) o p app r time narrow h = joined_light (is_reliable r.flags) o p app r own time narrow h
-connect_by_light Free false None o p app r time narrow h = record { ports = h; loose = All-nil IsLight }
-connect_by_light Held refused own o p app r time narrow h = record { ports = h; loose = All-nil IsLight }
-connect_by_light (Opened c) refused own o p app r time narrow h = record { ports = h; loose = All-nil IsLight }
+joined_light : (o : OwnFlows) (p : PlainPorts) (r : Request) (own time : ℕ) → o.options.window ≤ 20 → ArePorts p → Comes (joined o p r own time)
+joined_light o p r own time narrow h =
+    let q : PlainPorts = linked wish.Connection p r own in
+    either (is_reliable r.flags) (asking o r.seat time q) (plain p r own)
+    (begun_light r.seat _ q (connecting_light (start_of o.seed p.made) o.options o.node p.made time narrow) (linked_light wish.Connection p r own h))
+    (record { ports = linked_light wish.Nothing p r own h; loose = All-nil IsLight })
 
-pub connect_light : (o : Origin) (p : PlainPorts) (app : ℕ) (r : Request) (time : ℕ) → o.options.window ≤ 20 → ArePorts p → Comes (connect o p app r time)
-connect_light o p app r time narrow h = connect_by_light (slot_at p.conns (seat app r.slot)) (is_refused p.conns r.dest r.from) (own_port_of p.conns r.dest r.from) o p app r time narrow h
+pub connect_light : (o : OwnFlows) (p : PlainPorts) (r : Request) (time : ℕ) → o.options.window ≤ 20 → ArePorts p → Comes (connect o p r time)
+connect_light o p r time narrow h = either (is_free (slot_at p.conns r.seat)) _ _ (either (is_refused p.conns r.dest r.from) _ _ (comes_come _ h) (by (own_port_of p.conns r.dest r.from))) (comes_come _ h)
+  where
+    by : (own : Option ℕ) → Comes (unwrap_or (option_map (λ own. joined o p r own time) own) (come p))
+    by None = comes_come p h
+    by (Some own) = joined_light o p r own time narrow h
 
 ending_light : (st : State) (s : Seat) (p : PlainPorts) → ArePorts p → ArePorts (ending_in st s p)
 ending_light Closed s p h = wishing_light p s wish.Ended h

@@ -3,6 +3,7 @@ use Rattle.std.proofs.Common.{subst, sym, ◌≡◌, ℕ, ◌≤◌, Bool, true,
 use Rattle.std.proofs.lemmas.List.Elements.{All-append, All-cons, All-drop, All-head}
 use Rattle.std.specs.List.{All}
 use Rattle.std.specs.Prelude.{IfSome}
+use Rattle.csp_base.specs.declared.seat.Seat.{Seat}
 use Rattle.csp_buffer.specs.Content.{Content}
 use Rattle.csp_buffer.specs.PlainBuffer.{PlainBuffer}
 use Rattle.csp_conn.specs.PlainConns.{slot_at}
@@ -28,14 +29,12 @@ use Rattle.csp_sizes.specs.Light.{AreFacts, ArePorts, IsLight, IsLightAnswer, Is
 use Rattle.csp_stack.specs.Counting.{came_in, was_full}
 use Rattle.csp_stack.specs.Party.{asked_of, asks_of, told_of}
 use Rattle.csp_stack.specs.Readings.{buffer_in, is_pushed, item_in}
-use Rattle.csp_stack.specs.Router.{Facts, Leaving, Router, State, at_rest}
+use Rattle.csp_stack.specs.Router.{Facts, Leaving, Router, State, at_rest, router}
 use Rattle.csp_stack.specs.Rules.{Arrival, heard, made_on, packet_in, served}
 use Rattle.csp_stack.specs.Told.{Told, kept, ported, with_ports}
 use Rattle.csp_stack.specs.Turn as turn
 use Rattle.csp_stack.specs.declared.plan.Plan.TheVariants as plan
 use Rattle.csp_stack.specs.declared.plan.Plan.{Plan}
-use Rattle.csp_base.specs.declared.seat.Seat.{Seat}
-use Rattle.csp_base.specs.Seat.{seat}
 
 -- ---- what it asks
 
@@ -155,7 +154,7 @@ told_light (plan.Deliver seat) f s time a are h light =
     (delivery (machine_at s.ports seat)) a refl light
 told_light (plan.Make seat j) f s time a are h light =
     let t : State = at_rest (turn.asked_by f s time (plan.Make seat j)) in
-    brought_light IsLight t (made_on (slot_at t.ports.conns seat) j f t seat time) (buffer_in a) (buffer_came op.Take a light) h (λ b is. made_on_light (slot_at t.ports.conns seat) j f t seat time b is h)
+    brought_light IsLight t (made_on (slot_at t.ports.conns seat) (seat, j) (router f t) time) (buffer_in a) (buffer_came op.Take a light) h (λ b is. made_on_light (slot_at t.ports.conns seat) j f t seat time b is h)
 
 pub router_light : (r : Router) (time : ℕ) (a : AnswerShown) → IsLightRouter r → IsLightAnswer (asks_of r time) a → IsLightRouter (told_of (asked_of r time) time a)
 router_light r time a h light =

@@ -7,11 +7,13 @@ use Rattle.std.proofs.lemmas.Nat.{and_mask}
 use Rattle.std.specs.Int.RustNames.{bit_and}
 use Rattle.std.specs.Int.{from_be_bytes, to_be_bytes, w32}
 use Rattle.std.specs.List.{All}
-use Rattle.std.specs.Prelude.{◌==◌, ◌||◌, IfOk, IfSome, if◌then◌else◌, nat_lt, ◌^◌, get_or, min, slice_index, slice_set}
+use Rattle.std.specs.Prelude.{◌==◌, ◌||◌, IfOk, IfSome, if◌then◌else◌, is_some, nat_lt, ◌^◌, get_or, min, slice_index, slice_set}
+use Rattle.csp_base.specs.Seat.{seat}
+use Rattle.csp_base.specs.declared.seat.Seat.{Seat}
 use Rattle.csp_base.specs.Trace.{no_trace}
 use Rattle.csp_base.specs.declared.traces.Tag.{Tag}
 use Rattle.csp_buffer.specs.Content.{Content}
-use Rattle.csp_conn.specs.Opening.{first_free}
+use Rattle.csp_conn.specs.Opening.{free_seat}
 use Rattle.csp_conn.specs.PlainConns.{slot_at}
 use Rattle.csp_conn.specs.declared.slot.Connection.{Connection}
 use Rattle.csp_conn.specs.declared.slot.Slot.TheVariants as slot
@@ -31,9 +33,9 @@ use Rattle.csp_log.specs.declared.places.TheConstants.{UNMARKED}
 use Rattle.csp_log.specs.declared.shown.ItemShown.TheVariants as item
 use Rattle.csp_log.specs.declared.shown.ItemShown.{ItemShown}
 use Rattle.csp_ports.proofs.Public.{all_or}
-use Rattle.csp_ports.specs.Asking.{close, connect, is_reliable, bind_by}
+use Rattle.csp_ports.specs.Asking.{close, connect, is_reliable}
 use Rattle.csp_ports.specs.Came.{Came}
-use Rattle.csp_ports.specs.Packets.{handing, invited, submitting}
+use Rattle.csp_ports.specs.Packets.{accepted, handing, invited, submitting}
 use Rattle.csp_ports.specs.PlainPorts.{PlainPorts, machines_of, terms_at}
 use Rattle.csp_ports.specs.Tasks.{made_in, making}
 use Rattle.csp_ports.specs.declared.handing.Invitation.{Invitation}
@@ -65,14 +67,12 @@ use Rattle.csp_stack.specs.Counting.{counting, came_in, refused_by, sent_to, was
 use Rattle.csp_stack.proofs.Public.{by_rest, heard_here}
 use Rattle.csp_stack.specs.Comes.{heard_at_port, heard_at_socket, heard_elsewhere}
 use Rattle.csp_stack.specs.Readings.{is_checked, is_here, is_secured}
-use Rattle.csp_stack.specs.Router.{Facts, Leaving, State, origin_of}
+use Rattle.csp_stack.specs.Router.{Facts, Leaving, State, flows_of, router}
 use Rattle.csp_stack.specs.Rules as rules
 use Rattle.csp_stack.specs.Rules.{◌>>=◌, Arrival, Ruling, Decided, Left}
 use Rattle.csp_stack.specs.Sending.{headed, protected}
 use Rattle.csp_stack.specs.Serving.{facts_of, reply_header, reply_in, with_facts}
 use Rattle.csp_stack.specs.Told.{Told, discarded, leaving, ported, with_ports}
-use Rattle.csp_base.specs.declared.seat.Seat.{Seat}
-use Rattle.csp_base.specs.Seat.{seat}
 
 abbrev pub IsTold : Told → Type 0
 IsTold t = IsLightState t.state
@@ -232,16 +232,16 @@ go_connection s seat time p light h =
     either (is_reliable p.head.flags.0) (rules.to_machine (parted p.buffer.payload) s seat time p) (leaving s (rules.to_slot seat p.buffer))
     (go_machine (parted p.buffer.payload) s seat time p (parted_short p.buffer.payload) light h) (leaves s (rules.to_slot seat p.buffer) light h)
 
-go_by_connection : (at : Option (ℕ × ℕ)) (s : State) (time : ℕ) (p : Arrival) → IsCut p → IsLightState s → IsRuled IsCut (rules.by_connection at s time p)
+go_by_connection : (found : Option Seat) (s : State) (time : ℕ) (p : Arrival) → IsCut p → IsLightState s → IsRuled IsCut (rules.by_connection found s time p)
 go_by_connection None s time p cut h = cut
-go_by_connection (Some at) s time p cut h =
-    let required = if rules.is_lacking s p then discarded s why.Required p.buffer else rules.to_connection s at time p in
-    either (rules.is_mixed s at p) (discarded s why.Mixed p.buffer) required (trashed s p.buffer cut.light h)
-    (either (rules.is_lacking s p) (discarded s why.Required p.buffer) (rules.to_connection s at time p) (trashed s p.buffer cut.light h) (go_connection s at time p cut.light h))
+go_by_connection (Some seat) s time p cut h =
+    let required = if rules.is_lacking s p then discarded s why.Required p.buffer else rules.to_connection s seat time p in
+    either (rules.is_mixed s seat p) (discarded s why.Mixed p.buffer) required (trashed s p.buffer cut.light h)
+    (either (rules.is_lacking s p) (discarded s why.Required p.buffer) (rules.to_connection s seat time p) (trashed s p.buffer cut.light h) (go_connection s seat time p cut.light h))
 
-go_accepting : (free : Option ℕ) (s : State) (app : ℕ) (p : Arrival) → Arrives p → IsLightState s → IsTold (rules.accepting free s app p)
-go_accepting None s app p light h = trashed s p.buffer light h
-go_accepting (Some number) s app p light h = record { ports = accepted_light s.ports (seat app number) (rules.connection_of p.head) p.head.prio (rules.answer_flags p.head) h.ports; trash = h.trash; out = light; stats = h.stats }
+go_accepting : (free : Option Seat) (s : State) (p : Arrival) → Arrives p → IsLightState s → IsTold (rules.accepting free s p)
+go_accepting None s p light h = trashed s p.buffer light h
+go_accepting (Some seat) s p light h = record { ports = accepted_light s.ports seat (rules.connection_of p.head) p.head.prio (rules.answer_flags p.head) h.ports; trash = h.trash; out = light; stats = h.stats }
 
 -- the window that a packet asks for is one that a connection may have
 checked_narrow : (o : Options) → IfOk (options.checked o) (λ o. o.window ≤ 20)
@@ -274,19 +274,20 @@ invitation_in_narrow : (o : Option (List ℕ × RdpHead)) (tag : Option Tag) →
 invitation_in_narrow None tag = tt
 invitation_in_narrow (Some read) tag = asked_by_narrow (has_flag read.1 SYN) (has_flag read.1 ACK || has_flag read.1 RST) read.0 read.1 tag
 
-go_inviting : (i : Result Invitation Discard) (free : Option ℕ) (f : Facts) (s : State) (app time : ℕ) (p : Arrival) → IfOk i (λ i. i.options.window ≤ 20) → Arrives p → IsLightState s → IsTold (rules.inviting i free f s app time p)
-go_inviting (Err reason) free f s app time p narrow light h = trashed s p.buffer light h
-go_inviting (Ok i) None f s app time p narrow light h = trashed s p.buffer light h
-go_inviting (Ok i) (Some number) f s app time p narrow light h =
-    let c = invited (origin_of f) s.ports (seat app number) (rules.connection_of p.head) p.head.prio (rules.answer_flags p.head) i time in
-    let came = invited_light (origin_of f) s.ports (seat app number) (rules.connection_of p.head) p.head.prio (rules.answer_flags p.head) i time narrow h.ports in
+go_inviting : (i : Result Invitation Discard) (free : Option Seat) (f : Facts) (s : State) (time : ℕ) (p : Arrival) → IfOk i (λ i. i.options.window ≤ 20) → Arrives p → IsLightState s → IsTold (rules.inviting i free (router f s) time p)
+go_inviting (Err reason) free f s time p narrow light h = trashed s p.buffer light h
+go_inviting (Ok i) None f s time p narrow light h = trashed s p.buffer light h
+go_inviting (Ok i) (Some seat) f s time p narrow light h =
+    let q = accepted s.ports seat (rules.connection_of p.head) p.head.prio (rules.answer_flags p.head) in
+    let c = invited (flows_of f) i seat time q in
+    let came = invited_light (flows_of f) i seat time q narrow (accepted_light s.ports seat (rules.connection_of p.head) p.head.prio (rules.answer_flags p.head) h.ports) in
     trashed (ported s c).state p.buffer light (ported_light s c came h)
 
 go_opening : (app : ℕ) (f : Facts) (s : State) (time : ℕ) (p : Arrival) → Arrives p → IsLightState s → IsTold (rules.opening app f s time p)
 go_opening app f s time p light h =
-    let free = first_free s.ports.conns app in
-    either (is_reliable p.head.flags.0) (rules.inviting (rules.invitation_of p.buffer) free f s app time p) (rules.accepting free s app p)
-    (go_inviting (rules.invitation_of p.buffer) free f s app time p (invitation_in_narrow (parted p.buffer.payload) p.buffer.trace.tag) light h) (go_accepting free s app p light h)
+    let free = free_seat s.ports.conns app in
+    either (is_reliable p.head.flags.0) (rules.inviting (rules.invitation_of p.buffer) free (router f s) time p) (rules.accepting free s p)
+    (go_inviting (rules.invitation_of p.buffer) free f s time p (invitation_in_narrow (parted p.buffer.payload) p.buffer.trace.tag) light h) (go_accepting free s p light h)
 
 go_by_socket : (owner : Option (ℕ × ℕ)) (f : Facts) (s : State) (time : ℕ) (p : Arrival) → IsCut p → IsLightState s → IsRuled IsCut (rules.by_socket owner f s time p)
 go_by_socket None f s time p cut h = cut
@@ -319,36 +320,38 @@ heard_light f s time p are light h =
     go_on Arrives (rules.not_secured t p) (λ p. by_rest f t time p)
     (go_if Arrives (is_secured p.head) (discarded (counting t p.mark count.AuthErrors 1) why.Refused p.buffer) p (trashed (counting t p.mark count.AuthErrors 1) p.buffer l (counting_light t p.mark count.AuthErrors 1 g)) l) (λ p l.
     go_on IsCut (rules.without_checksum t p) (λ p. heard_at_port f t time p) (go_checksum (is_checked p.head) (payload_of p.buffer.payload) t p refl refl l g) (λ p c.
-    go_on IsCut (rules.of_no_connection t time p) (λ p. heard_at_socket f t time p) (go_by_connection (rules.slot_of t p) t time p c g) (λ p c.
+    go_on IsCut (rules.of_no_connection t time p) (λ p. heard_at_socket f t time p) (go_by_connection (rules.seat_for t p) t time p c g) (λ p c.
     go_on IsCut (rules.to_no_socket f t time p) (λ p. heard_elsewhere f t time p) (go_by_socket (rules.owner_for t p) f t time p c g) (λ p c.
     go_on IsCut (rules.not_reliable t p) (λ p. rules.by_service f t time p) (go_if IsCut (is_reliable p.head.flags.0) (discarded t why.NoSocket p.buffer) p (trashed t p.buffer c.light g) c) (λ p c.
     go_service f t time p are c g))))))
 
 -- ---- from an application
 
-go_on_connection : (reliable : Bool) (c : Connection) (f : Facts) (s : State) (seat : Seat) (time : ℕ) (b : Content) → IsData b → IsLightState s → IsTold (rules.on_connection reliable c f s seat time b)
-go_on_connection false c f s seat time b data' h = sent_light f s (rules.addressed f c (terms_at s.ports seat) b) (headed_light (rules.header_for f c (terms_at s.ports seat)) b (omega (arith, data'))) h
-go_on_connection true c f s seat time b data' h = ported_light s (submitting s.ports seat b time) (submitting_light s.ports seat b time data' h.ports) h
+go_on_connection : (c : Connection) (f : Facts) (s : State) (seat : Seat) (time : ℕ) (b : Content) → IsData b → IsLightState s → IsTold (rules.on_connection c (router f s) seat time b)
+go_on_connection c f s seat time b data' h =
+    either (is_reliable (terms_at s.ports seat).flags) (ported s (submitting s.ports seat b time)) (rules.sent_on c (router f s) seat b)
+    (ported_light s (submitting s.ports seat b time) (submitting_light s.ports seat b time data' h.ports) h)
+    (sent_light f s (rules.addressed f c (terms_at s.ports seat) b) (headed_light (rules.header_for f c (terms_at s.ports seat)) b (omega (arith, data'))) h)
 
-go_slot : (x : Slot) (f : Facts) (s : State) (seat : Seat) (time : ℕ) (b : Content) → IsData b → IsLightState s → IsTold (rules.by_slot x f s seat time b)
+go_slot : (x : Slot) (f : Facts) (s : State) (seat : Seat) (time : ℕ) (b : Content) → IsData b → IsLightState s → IsTold (rules.by_slot x (router f s) seat time b)
 go_slot slot.Free f s seat time b data' h = trashed s b (omega (arith, data')) h
 go_slot slot.Held f s seat time b data' h = trashed s b (omega (arith, data')) h
-go_slot (slot.Open c) f s seat time b data' h = go_on_connection (is_reliable (terms_at s.ports seat).flags) c f s seat time b data' h
+go_slot (slot.Open c) f s seat time b data' h = go_on_connection c f s seat time b data' h
 
-go_mark : (unmarked : Bool) (f : Facts) (s : State) (app mark time : ℕ) (b : Content) → IsData b → IsLightState s → IsTold (rules.by_mark unmarked f s app mark time b)
-go_mark true f s app mark time b data' h = sent_light f s b (omega (arith, data')) h
-go_mark false f s app mark time b data' h = go_slot (slot_at s.ports.conns (seat app mark)) f s (seat app mark) time b data' h
+go_mark : (unmarked : Bool) (f : Facts) (s : State) (seat : Seat) (time : ℕ) (b : Content) → IsData b → IsLightState s → IsTold (rules.by_mark unmarked (router f s) seat time b)
+go_mark true f s seat time b data' h = sent_light f s b (omega (arith, data')) h
+go_mark false f s seat time b data' h = go_slot (slot_at s.ports.conns seat) f s seat time b data' h
 
-bound_light : (can : Bool) (o : Option (ℕ × ℕ)) (p : PlainPorts) (app port need : ℕ) → ArePorts p → ArePorts (bind_by can o p app port need)
-bound_light false o p app port need h = h
-bound_light true (Some owner) p app port need h = h
-bound_light true None p app port need h = h
+one_of_three : (b c : Bool) (p q r : PlainPorts) → ArePorts p → ArePorts q → ArePorts r → ArePorts (if b then if c then p else q else r)
+one_of_three true true p q r one two three = one
+one_of_three true false p q r one two three = two
+one_of_three false c p q r one two three = three
 
 go_request : (f : Facts) (s : State) (app time : ℕ) (n : Note) → AreFacts f → IsLightState s → IsTold (rules.requested f s app time n)
-go_request f s app time (note.Bind port need) are h = record { ports = bound_light (nat_lt port BINDABLE_PORTS) (owner_of s.ports.bound port) s.ports app port need h.ports; trash = h.trash; out = h.out; stats = h.stats }
+go_request f s app time (note.Bind port need) are h = record { ports = one_of_three (nat_lt port BINDABLE_PORTS) (is_some (owner_of s.ports.bound port)) _ _ _ h.ports h.ports h.ports; trash = h.trash; out = h.out; stats = h.stats }
 go_request f s app time (note.Connect number dest port prio flags from) are h =
-    let r : Request = record { slot = number; dest = dest; port = port; prio = prio; flags = flags; from = from } in
-    ported_light s (connect (origin_of f) s.ports app r time) (connect_light (origin_of f) s.ports app r time are.window h.ports) h
+    let r : Request = record { seat = seat app number; dest = dest; port = port; prio = prio; flags = flags; from = from } in
+    ported_light s (connect (flows_of f) s.ports r time) (connect_light (flows_of f) s.ports r time are.window h.ports) h
 go_request f s app time (note.Close number) are h = ported_light s (close s.ports (seat app number) time) (close_light s.ports (seat app number) time h.ports) h
 go_request f s app time note.Bound are h = h
 go_request f s app time (note.Connected number) are h = h
@@ -357,13 +360,13 @@ go_request f s app time (note.Closed number) are h = h
 go_request f s app time (note.Down number) are h = h
 
 pub served_light : (f : Facts) (s : State) (time app : ℕ) (i : ItemShown) → AreFacts f → item_bytes i ≤ 522 → IsLightState s → IsTold (rules.served f s time app i)
-served_light f s time app (item.Packet mark b) are data' h = go_mark (mark == UNMARKED) f s app mark time b data' h
+served_light f s time app (item.Packet mark b) are data' h = go_mark (mark == UNMARKED) f s (seat app mark) time b data' h
 served_light f s time app (item.Note n) are data' h = go_request f s app time n are h
 served_light f s time app (item.Frame x) are data' h = h
 
 -- ---- from the machine of a connection
 
-pub made_on_light : (x : Slot) (j : Job) (f : Facts) (s : State) (seat : Seat) (time : ℕ) (b : Content) → IsLight b → IsLightState s → IsTold (rules.made_on x j f s seat time b)
+pub made_on_light : (x : Slot) (j : Job) (f : Facts) (s : State) (seat : Seat) (time : ℕ) (b : Content) → IsLight b → IsLightState s → IsTold (rules.made_on x (seat, j) (router f s) time b)
 made_on_light slot.Free j f s seat time b light h = trashed s b light h
 made_on_light slot.Held j f s seat time b light h = trashed s b light h
 made_on_light (slot.Open c) j f s seat time b light h =
