@@ -38,6 +38,7 @@ use Rattle.csp_prefix.specs.Items.{ends_by, payloads_from}
 use Rattle.csp_record.specs.Payloads as record_payloads
 use Rattle.csp_blobs.specs.Blobs.{AreCollected, Tells}
 use Rattle.csp_blobs.proofs.ItemReads.{Knows, TellsOf, begun_with, blobs_by, blobs_of_none, collector_after, collector_by, item_tells, knows_after, knows_set, refusals_by, refusals_of_none, tells_append, tells_same}
+use Rattle.csp_base.specs.Seat.{seat}
 
 -- an application of this number, on whose slot so many connections have ended, and whose slot has this collector
 abbrev Stands : (number k n : ℕ) → Option Gathering → PlainApp → Type 0
@@ -252,7 +253,7 @@ pub collects : AreTrueApps → AreCollected
 collects true_apps number steps es log = record {
   collects = λ k o low collector.
       let items : List ItemShown = gets (queue.Down number) es in
-      let taken : List (List ℕ) = record_payloads.took number k o es in
+      let taken : List (List ℕ) = record_payloads.took (seat number k) o es in
       let same : payloads_from k o 0 items ≡ taken = sym ((true_apps number steps es log).takes k o) in
       tells_same k o (all_events es) (blobs_by (begun_with (0 == o) (Some nothing)) (payloads_from k o 0 items)) (blobs_by (Some nothing) taken)
       (refusals_by (begun_with (0 == o) (Some nothing)) (payloads_from k o 0 items)) (refusals_by (Some nothing) taken)

@@ -29,6 +29,7 @@ use Rattle.csp_blobs.proofs.BlobPrefix.{AreOnSlots, app_log}
 use Rattle.csp_blobs.specs.Asking.{AnswerNoMore, AreBlobsWhole, IsConnect, SendWhatComes, WaitForAnswers, asks}
 use Rattle.csp_blobs.specs.Blobs.{IsBlobPrefix}
 use Rattle.csp_blobs.specs.Sending.{IsSince, SendPieces, SendsPieces, cuts_on, payload_on, pushed_on}
+use Rattle.csp_base.specs.Seat.{seat}
 
 connect_asks : (slot : ℕ) (n : Note) → IsConnect slot n → asks n ≡ true
 connect_asks slot (note.Connect own dest port prio flags from) is = refl
@@ -128,7 +129,7 @@ module _ (scene : PlainScene) (r : PlainRecord) (is : IsScene scene) (con : IsCo
 
       sent_then : IsBeginning (sent_on r place other y) (pushed_on y.slot later)
       sent_then =
-          subst (λ o. IsBeginning (sent other y.slot o R) (pushed_on y.slot later)) asked.ordinal
+          subst (λ o. IsBeginning (sent (seat other y.slot) o R) (pushed_on y.slot later)) asked.ordinal
           (send _ _ R to_opening asked.later asked.opens other y.slot peer.1 asked.at y.peer t.log asked.whole told)
 
       pushed : IsBeginning (pushed_on y.slot later) (pushed_on y.slot (later ++ up_left))

@@ -19,6 +19,8 @@ use Rattle.csp_consistent.specs.Reading.{entries_of}
 use Rattle.csp_prefix.specs.Apps.{IsAppLog}
 use Rattle.csp_prefix.specs.Prefix.{IsBeginning, IsOfFlow, IsOpened, sent_on, took_on}
 use Rattle.csp_report.specs.Blobs.{blobs_on, refusals_on}
+use Rattle.csp_base.specs.declared.seat.Seat.{Seat}
+use Rattle.csp_base.specs.Seat.{seat}
 
 -- events tell of just these blobs on the connection of this slot and this ordinal, each by its length and its CRC, and of pieces refused there for just
 -- these reasons
@@ -32,7 +34,7 @@ pub record Tells (slot ordinal : ℕ) (events : List Event) (blobs : List (List 
 -- connection; and else nothing
 pub record IsCollected (number : ℕ) (steps : List PlainStep) (es : List Entry) : Type 0 where
   pub collects : (slot ordinal : ℕ) → slot < SLOTS → collector_for steps slot ≡ Some nothing
-      → Tells slot ordinal (all_events es) (collected nothing (took number slot ordinal es)) (refusals nothing (took number slot ordinal es))
+      → Tells slot ordinal (all_events es) (collected nothing (took (seat number slot) ordinal es)) (refusals nothing (took (seat number slot) ordinal es))
   pub others : (slot ordinal : ℕ) → collector_for steps slot ≡ None → Tells slot ordinal (all_events es) [] []
 
 -- each log of an application tells of blobs what its slots' collectors make of the payloads that were taken
@@ -42,12 +44,12 @@ AreCollected = (number : ℕ) (steps : List PlainStep) (es : List Entry) → IsA
 -- ---- in a record
 
 -- the application of this number of a node collects on this slot
-pub record CollectsAt (scene : PlainScene) (node app slot : ℕ) : Type 0 where
+pub record CollectsAt (scene : PlainScene) (node : ℕ) (s : Seat) : Type 0 where
   pub home : PlainNode
   pub there : slice_get scene.nodes node ≡ Some home
   pub own : PlainApp
-  pub of_it : slice_get home.apps app ≡ Some own
-  pub collects : collector_for own.steps slot ≡ Some nothing
+  pub of_it : slice_get home.apps s.app ≡ Some own
+  pub collects : collector_for own.steps s.slot ≡ Some nothing
 
 -- an application's record tells of a beginning of these blobs on a connection, each once and whole, and of no refusal: of those that a new collector
 -- makes of the payloads that were taken there
@@ -66,5 +68,5 @@ pub record HasPeersBlobs (r : PlainRecord) (node app : ℕ) (x : Opening) (peer 
 -- peer sent
 abbrev pub IsBlobPrefix : PlainScene → PlainRecord → Type 0
 IsBlobPrefix scene r =
-    (node app nth : ℕ) (x : Opening) (peer : ℕ × ℕ) → IsOpened r node app x → x.nth ≡ Some nth → x.peer ≡ Some peer → CollectsAt scene node app x.slot
+    (node app nth : ℕ) (x : Opening) (peer : ℕ × ℕ) → IsOpened r node app x → x.nth ≡ Some nth → x.peer ≡ Some peer → CollectsAt scene node (seat app x.slot)
     → HasPeersBlobs r node app x peer
