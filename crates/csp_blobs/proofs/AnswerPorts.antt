@@ -18,9 +18,8 @@ use Rattle.csp_conn.specs.declared.slot.Connection.{Connection}
 use Rattle.csp_conn.specs.declared.slot.Slot.TheVariants as has
 use Rattle.csp_log.specs.declared.note.Note.{Note}
 use Rattle.csp_log.specs.declared.note.Note.TheVariants as note
-use Rattle.csp_log.specs.declared.note.Why.{Why}
 use Rattle.csp_log.specs.declared.note.Why.TheVariants as reason
-use Rattle.csp_ports.specs.Asking.{answered, answered_by, asking, bind, close_by, connect, ending_in, freed_by, held_by, is_reliable, joined, linked, plain, unjoined}
+use Rattle.csp_ports.specs.Asking.{answered, answered_by, asking, bind, close_by, connect, ending_in, freed_by, held_by, is_reliable, joined, linked, plain}
 use Rattle.csp_ports.specs.Came.{Came, come}
 use Rattle.csp_ports.specs.Kept.{wished, wishes}
 use Rattle.csp_ports.specs.Packets.{accepted, admitting_by, handing, invited, submitting_in}
@@ -347,37 +346,36 @@ tells s p = sets p s (record (terms_at p s) { is_down = false }) (alike (weight 
 -- ---- what an application asks
 
 -- one of two
-one_of : {X : Type 0} (to : X → PlainPorts) (app : ℕ) (b : Bool) (p : PlainPorts) (x y : X) → OneMore app p (to x) → OneMore app p (to y) → OneMore app p (to (if b then x else y))
-one_of to app true p x y one other = one
-one_of to app false p x y one other = other
+one_of : {X : Type 0} (P : X → Type 0) (b : Bool) (x y : X) → P x → P y → P (if b then x else y)
+one_of P true x y one other = one
+one_of P false x y one other = other
 
 pub binds : (p : PlainPorts) (app port need : ℕ) → OneMore app p (bind p app port need)
 binds p app port need =
-    let by : (b : Bool) (q r : PlainPorts) → OneMore app p q → OneMore app p r → OneMore app p (if b then q else r) = λ b q r. one_of (λ x. x) app b p q r in
-    by (nat_lt port BINDABLE_PORTS) _ _ (by (is_some (owner_of p.bound port)) _ _ (owes p app (note.Refused reason.InUse)) (owes p app note.Bound)) (owes p app (note.Refused reason.NotBindable))
+    one_of (OneMore app p) (nat_lt port BINDABLE_PORTS) _ _ (one_of (OneMore app p) (is_some (owner_of p.bound port)) _ _ (owes p app (note.Refused reason.InUse)) (owes p app note.Bound))
+    (owes p app (note.Refused reason.NotBindable))
 
-joins : (o : OwnFlows) (p : PlainPorts) (r : Request) (own time : ℕ) → r.seat.slot < SLOTS → OneMore r.seat.app p (joined o p r own time).ports
+-- so where a connection is asked for
+abbrev Asks : Request → PlainPorts → Came → Type 0
+Asks r p c = OneMore r.seat.app p c.ports
+
+joins : (o : OwnFlows) (p : PlainPorts) (r : Request) (own time : ℕ) → r.seat.slot < SLOTS → Asks r p (joined o p r own time)
 joins o p r own time low =
     let begun : Wish → Terms = λ w. record (terms_at p r.seat) { prio = r.prio; flags = r.flags; wish = w; is_down = false } in
     let q : PlainPorts = record (linked wish.Connection p r own) { made = p.made + 1 } in
-    let asks : Came = asking o r.seat time (linked wish.Connection p r own) in
-    one_of (λ c. c.ports) r.seat.app (is_reliable r.flags) p asks (plain p r own)
-    (one_then_none r.seat.app p q asks.ports (sets_more p r.seat (begun wish.Connection) low) (machines q r.seat (Some (connecting (start_of o.seed p.made) o.options o.node p.made time))))
+    let c : Came = asking o r.seat time (linked wish.Connection p r own) in
+    one_of (Asks r p) (is_reliable r.flags) c (plain p r own)
+    (one_then_none r.seat.app p q c.ports (sets_more p r.seat (begun wish.Connection) low) (machines q r.seat (Some (connecting (start_of o.seed p.made) o.options o.node p.made time))))
     (owes_and_sets p r.seat (begun wish.Nothing) (note.Connected r.seat.slot) (least (weight (terms_at p r.seat))))
 
-pub connects_to : (o : OwnFlows) (p : PlainPorts) (r : Request) (time : ℕ) → r.seat.slot < SLOTS → OneMore r.seat.app p (connect o p r time).ports
+pub connects_to : (o : OwnFlows) (p : PlainPorts) (r : Request) (time : ℕ) → r.seat.slot < SLOTS → Asks r p (connect o p r time)
 connects_to o p r time low =
-    by (is_free (slot_at p.conns r.seat)) _ _ (by (is_refused p.conns r.dest r.from) _ _ (refused reason.PortBusy) (by_own (own_port_of p.conns r.dest r.from))) (refused reason.Busy)
+    one_of (Asks r p) (is_free (slot_at p.conns r.seat)) _ _
+    (one_of (Asks r p) (is_refused p.conns r.dest r.from) _ _ (owes p r.seat.app (note.Refused reason.PortBusy)) (by (own_port_of p.conns r.dest r.from))) (owes p r.seat.app (note.Refused reason.Busy))
   where
-    by : (b : Bool) (c d : Came) → OneMore r.seat.app p c.ports → OneMore r.seat.app p d.ports → OneMore r.seat.app p (if b then c else d).ports
-    by b c d = one_of (λ c. c.ports) r.seat.app b p c d
-
-    refused : (why : Why) → OneMore r.seat.app p (unjoined p r why).ports
-    refused why = owes p r.seat.app (note.Refused why)
-
-    by_own : (own : Option ℕ) → OneMore r.seat.app p (unwrap_or (option_map (λ own. joined o p r own time) own) (come p)).ports
-    by_own None = none_more r.seat.app p p (stays p)
-    by_own (Some own) = joins o p r own time low
+    by : (own : Option ℕ) → Asks r p (unwrap_or (option_map (λ own. joined o p r own time) own) (come p))
+    by None = none_more r.seat.app p p (stays p)
+    by (Some own) = joins o p r own time low
 
 holds_by : (free : Bool) (p : PlainPorts) (s : Seat) → NoMore p (held_by free p s)
 holds_by true p s = stays p
