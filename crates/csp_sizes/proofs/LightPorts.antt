@@ -23,7 +23,7 @@ use Rattle.csp_ports.specs.Asking.{answered, answered_by, asking, close, close_b
 use Rattle.csp_ports.specs.Came.{Came, come, discarding, pictures, then}
 use Rattle.csp_ports.specs.Packets.{accepted, admitting_by, back_by, handing, invited, submitting, submitting_in}
 use Rattle.csp_ports.specs.PlainPorts.{PlainPorts, PlainStalled, anywhere, has_machine, machine_at, machine_in, machines_of, ports_of, stalled_at, start_of, state_at, terms_at, untouched, wishing, with_machine, with_machine_or, with_stalled, with_terms, is_closing}
-use Rattle.csp_ports.specs.Steps.{changed, closed_by, connected_by, dropped, dropped_of, freed, has_room, refused, refused_by, replaced, settled, stepped, timed, timed_at, timed_in, went, where_machine}
+use Rattle.csp_ports.specs.Steps.{changed, closed_by, connected_by, dropped, dropped_of, freed, has_room, refused_by, replaced, settled, stepped, timed, timed_at, timed_in, went, where_machine}
 use Rattle.csp_ports.specs.Tasks.{delivered, kept_again, made_in, making, told_down, without_packet}
 use Rattle.csp_ports.specs.declared.handing.Invitation.{Invitation}
 use Rattle.csp_ports.specs.declared.flows.OwnFlows.{OwnFlows}
