@@ -17,7 +17,6 @@ use Rattle.csp_rdp.specs.declared.answers.State.TheVariants.{Closed, CloseWait, 
 use Rattle.csp_rdp_header.specs.declared.head.RdpHead.{RdpHead}
 use Rattle.csp_rdp_window.specs.Receiving.{PlainRecv}
 use Rattle.csp_base.specs.declared.seat.Seat.{Seat}
-use Rattle.csp_base.specs.Seat.{seat}
 
 -- ---- a machine that is over
 

@@ -28,7 +28,6 @@ use Rattle.csp_stack.specs.Turn.{asked_at, asked_by, plan_of, timed, told_at, tu
 use Rattle.csp_stack.specs.declared.plan.Plan.{Plan}
 use Rattle.csp_blobs.proofs.AskingShut.{IsShut, Keeps, beside, number_is, open_or_past, shut_kept, shut_not_plain, was_opened}
 use Rattle.csp_base.specs.declared.seat.Seat.{Seat}
-use Rattle.csp_base.specs.Seat.{seat}
 
 -- at senders
 abbrev pub senders : Facts → Aim

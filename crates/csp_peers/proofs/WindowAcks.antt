@@ -2,7 +2,6 @@
 use Rattle.std.proofs.Common.{◌≡◌, ◌≢◌, ℕ, pos, ◌<◌, ◌≤◌, ◌==◌, Bool, true, false, Option, None, Some, List, ◌++◌, refl, sym, ap, ◌∙◌, subst, arith}
 use Rattle.std.specs.Prelude.{⊤, if◌then◌else◌, ℤ, ◌+ℤ◌}
 use Rattle.std.specs.Option.{unwrap_or}
-use Rattle.csp_base.specs.Seat.{seat}
 use Rattle.csp_base.specs.declared.seat.Seat.{Seat}
 use Rattle.csp_base.proofs.Public.{wrapped_small}
 use Rattle.csp_base.specs.Sequence.{number_of}
