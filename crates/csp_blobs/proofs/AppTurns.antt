@@ -5,6 +5,7 @@ use Rattle.std.proofs.lemmas.Bool.{eq-eqb}
 use Rattle.std.proofs.lemmas.Bool.Decides.{leb_tells}
 use Rattle.std.proofs.lemmas.List.{get_or-replicate, get_or_past}
 use Rattle.std.proofs.lemmas.List.FromFn.{get_or-map-range_with_len, length-map-range_with_len}
+use Rattle.csp_base.specs.Seat.{seat}
 use Rattle.csp_app.specs.Asking.{asked, asks}
 use Rattle.csp_app.specs.Collecting.{collector_at, collector_for, collectors_for}
 use Rattle.csp_app.specs.Making.{note_in}
@@ -38,7 +39,6 @@ use Rattle.csp_prefix.specs.Items.{ends_by, payloads_from}
 use Rattle.csp_record.specs.Payloads as record_payloads
 use Rattle.csp_blobs.specs.Blobs.{AreCollected, Tells}
 use Rattle.csp_blobs.proofs.ItemReads.{Knows, TellsOf, begun_with, blobs_by, blobs_of_none, collector_after, collector_by, item_tells, knows_after, knows_set, refusals_by, refusals_of_none, tells_append, tells_same}
-use Rattle.csp_base.specs.Seat.{seat}
 
 -- an application of this number, on whose slot so many connections have ended, and whose slot has this collector
 abbrev Stands : (number k n : ℕ) → Option Gathering → PlainApp → Type 0

@@ -3,6 +3,7 @@ use Rattle.std.proofs.Common.{◌≡◌, ℕ, ◌+◌, ◌<◌, true, Some, List
 use Rattle.std.specs.List.{AllByRecursion}
 use Rattle.std.proofs.lemmas.Option.{slice_get_within}
 use Rattle.std.proofs.lemmas.Grind.{flat_map-append}
+use Rattle.csp_base.specs.Seat.{seat}
 use Rattle.csp_log.specs.declared.entry.Entry.{Entry}
 use Rattle.csp_log.specs.declared.event.Event.TheVariants as event
 use Rattle.csp_log.specs.declared.note.Note.{Note}
@@ -29,7 +30,6 @@ use Rattle.csp_blobs.proofs.BlobPrefix.{AreOnSlots, app_log}
 use Rattle.csp_blobs.specs.Asking.{AnswerNoMore, AreBlobsWhole, IsConnect, SendWhatComes, WaitForAnswers, asks}
 use Rattle.csp_blobs.specs.Blobs.{IsBlobPrefix}
 use Rattle.csp_blobs.specs.Sending.{IsSince, SendPieces, SendsPieces, cuts_on, payload_on, pushed_on}
-use Rattle.csp_base.specs.Seat.{seat}
 
 connect_asks : (slot : ℕ) (n : Note) → IsConnect slot n → asks n ≡ true
 connect_asks slot (note.Connect own dest port prio flags from) is = refl
@@ -81,8 +81,8 @@ module _ (scene : PlainScene) (r : PlainRecord) (is : IsScene scene) (con : IsCo
       ranges : AllByRecursion IsStep steps
       ranges = subst (AllByRecursion IsStep) sends.script (each_at IsApp sends.home.apps other sends.own (each_at IsNode scene.nodes place sends.home is.nodes sends.there).apps sends.of_it).ranges
 
-      all : SendsPieces other y.slot steps A
-      all = pieces other y.slot steps A (on_slots place other y flow.0) ranges sends.blobs log
+      all : SendsPieces (seat other y.slot) steps A
+      all = pieces (seat other y.slot) steps A (on_slots place other y flow.0) ranges sends.blobs log
 
       up_left : List ItemShown
       up_left = left_in r place (queue.Up other) 0
@@ -130,7 +130,7 @@ module _ (scene : PlainScene) (r : PlainRecord) (is : IsScene scene) (con : IsCo
       sent_then : IsBeginning (sent_on r place other y) (pushed_on y.slot later)
       sent_then =
           subst (λ o. IsBeginning (sent (seat other y.slot) o R) (pushed_on y.slot later)) asked.ordinal
-          (send _ _ R to_opening asked.later asked.opens other y.slot peer.1 asked.at y.peer t.log asked.whole told)
+          (send _ _ R to_opening asked.later asked.opens (seat other y.slot) peer.1 asked.at y.peer t.log asked.whole told)
 
       pushed : IsBeginning (pushed_on y.slot later) (pushed_on y.slot (later ++ up_left))
       pushed = record { rest = pushed_on y.slot up_left; whole = sym (flat_map-append (payload_on y.slot) later up_left) }

@@ -8,6 +8,8 @@ use Rattle.std.proofs.lemmas.Bool.{cases_lt, eq-eqb, eqb-true}
 use Rattle.std.proofs.lemmas.Grind.{flat_map-append}
 use Rattle.std.proofs.lemmas.List.{append-nil, append_assoc}
 use Rattle.std.proofs.lemmas.List.Sums.{sum_by-cons}
+use Rattle.csp_base.specs.Seat.{seat}
+use Rattle.csp_base.specs.declared.seat.Seat.{Seat}
 use Rattle.csp_buffer.specs.Content.{Content}
 use Rattle.csp_conn.specs.PlainConns.{slot_at}
 use Rattle.csp_base.specs.declared.limits.TheConstants.{SLOTS}
@@ -61,8 +63,6 @@ use Rattle.csp_blobs.specs.Sending.{payload_on, pushed_on}
 use Rattle.csp_scene.proofs.Public.{AllByRecursion-append}
 use Rattle.csp_consistent.proofs.Public.{each_at}
 use Rattle.csp_blobs.proofs.AskingTurns.{IsEnded, IsToldOf, ended_said, ends_so, opening_of, over_aim, senders, senders_aim, told_of, turns, turns_on, used_on}
-use Rattle.csp_base.specs.declared.seat.Seat.{Seat}
-use Rattle.csp_base.specs.Seat.{seat}
 
 -- ---- a turn that pops from an application
 

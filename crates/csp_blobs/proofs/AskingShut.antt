@@ -1,6 +1,7 @@
 -- A reliable connection that was open and is so no more stays so, and nothing more is sent on it. Each step of a node's connections keeps that, once the
 -- numbering names for its number a place that it has not: no other connection of the number can be made there.
 use Rattle.std.proofs.Common.{◌≡◌, ◌≢◌, ℕ, ◌+◌, ◌<◌, Bool, true, false, Option, Some, None, List, refl, sym, ap, ◌∙◌, subst, arith}
+use Rattle.csp_base.specs.declared.seat.Seat.{Seat}
 use Rattle.csp_base.specs.declared.traces.Tag.{Tag}
 use Rattle.csp_buffer.specs.PlainBuffer.{PlainBuffer}
 use Rattle.csp_ports.specs.PlainPorts.{start_of}
@@ -16,7 +17,6 @@ use Rattle.csp_rdp.specs.declared.answers.State.{State}
 use Rattle.csp_rdp.specs.declared.answers.State.TheVariants.{Closed, CloseWait, Open, SynRcvd, SynSent}
 use Rattle.csp_rdp_header.specs.declared.head.RdpHead.{RdpHead}
 use Rattle.csp_rdp_window.specs.Receiving.{PlainRecv}
-use Rattle.csp_base.specs.declared.seat.Seat.{Seat}
 
 -- ---- a machine that is over
 

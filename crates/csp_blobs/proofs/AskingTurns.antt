@@ -2,6 +2,7 @@
 use Rattle.std.proofs.Common.{◌≡◌, ◌≢◌, ℕ, ◌<◌, ◌==◌, Bool, true, false, Option, Some, None, List, ◌++◌, refl, sym, ap, ◌∙◌, subst}
 use Rattle.std.specs.Prelude.{if◌then◌else◌, ⊤}
 use Rattle.std.proofs.lemmas.Bool.{eq-eqb}
+use Rattle.csp_base.specs.declared.seat.Seat.{Seat}
 use Rattle.csp_conn.specs.PlainConns.{slot_at}
 use Rattle.csp_base.specs.declared.limits.TheConstants.{SLOTS}
 use Rattle.csp_conn.specs.declared.slot.Connection.{Connection}
@@ -27,7 +28,6 @@ use Rattle.csp_stack.specs.Told.{Told}
 use Rattle.csp_stack.specs.Turn.{asked_at, asked_by, plan_of, timed, told_at, turn_of}
 use Rattle.csp_stack.specs.declared.plan.Plan.{Plan}
 use Rattle.csp_blobs.proofs.AskingShut.{IsShut, Keeps, beside, number_is, open_or_past, shut_kept, shut_not_plain, was_opened}
-use Rattle.csp_base.specs.declared.seat.Seat.{Seat}
 
 -- at senders
 abbrev pub senders : Facts → Aim

@@ -1,5 +1,7 @@
 -- What an application's record tells of blobs: what a collector makes of the payloads that were taken; and what of that follows from the reliable prefix.
 use Rattle.std.specs.Prelude.{◌≡◌, ◌<◌, ℕ, Some, None, List, [], length, map, slice_get}
+use Rattle.csp_base.specs.Seat.{seat}
+use Rattle.csp_base.specs.declared.seat.Seat.{Seat}
 use Rattle.csp_app.specs.Collecting.{collector_for}
 use Rattle.csp_app.specs.PlainStep.{PlainStep}
 use Rattle.csp_crc.specs.Crc.{crc_of}
@@ -19,8 +21,6 @@ use Rattle.csp_consistent.specs.Reading.{entries_of}
 use Rattle.csp_prefix.specs.Apps.{IsAppLog}
 use Rattle.csp_prefix.specs.Prefix.{IsBeginning, IsOfFlow, IsOpened, sent_on, took_on}
 use Rattle.csp_report.specs.Blobs.{blobs_on, refusals_on}
-use Rattle.csp_base.specs.declared.seat.Seat.{Seat}
-use Rattle.csp_base.specs.Seat.{seat}
 
 -- events tell of just these blobs on the connection of this slot and this ordinal, each by its length and its CRC, and of pieces refused there for just
 -- these reasons
@@ -43,13 +43,13 @@ AreCollected = (number : ℕ) (steps : List PlainStep) (es : List Entry) → IsA
 
 -- ---- in a record
 
--- the application of this number of a node collects on this slot
-pub record CollectsAt (scene : PlainScene) (node : ℕ) (s : Seat) : Type 0 where
+-- the application of this seat of a node collects on its slot
+pub record CollectsAt (scene : PlainScene) (node : ℕ) (seat : Seat) : Type 0 where
   pub home : PlainNode
   pub there : slice_get scene.nodes node ≡ Some home
   pub own : PlainApp
-  pub of_it : slice_get home.apps s.app ≡ Some own
-  pub collects : collector_for own.steps s.slot ≡ Some nothing
+  pub of_it : slice_get home.apps seat.app ≡ Some own
+  pub collects : collector_for own.steps seat.slot ≡ Some nothing
 
 -- an application's record tells of a beginning of these blobs on a connection, each once and whole, and of no refusal: of those that a new collector
 -- makes of the payloads that were taken there

@@ -39,7 +39,7 @@ pub record IsBounded (top : ℕ) (o : OwnFlows) (n : Now) : Type 0 where
 
 -- what is known of a reliable connection as one that makes packets
 abbrev pub IsMaker : (top : ℕ) → OwnFlows → Numbering → Seat → Now → Type 0
-IsMaker top o m s n = IsSender o m s n × IsBounded top o n
+IsMaker top o m seat n = IsSender o m seat n × IsBounded top o n
 
 -- whatever packets are handed to the connections of a node, each one that opens a connection and each connection that is asked for is such
 abbrev pub addressable : (top : ℕ) → Coming
@@ -80,7 +80,7 @@ pub record IsPeered (flows : Flows) (R : Connection → ℕ × ℕ → Type 0) (
 
 -- what is known of a reliable connection as one that hears packets
 abbrev pub IsHearer : Flows → (Connection → ℕ × ℕ → Type 0) → Numbering → Seat → Now → Type 0
-IsHearer flows R m s n = IsReceiver flows m s n × IsPeered flows R n
+IsHearer flows R m seat n = IsReceiver flows m seat n × IsPeered flows R n
 
 -- a packet with a tag of the right flow comes to each connection, whose index is bounded; and one that opens a connection is of the right flow, and
 -- shows its start
