@@ -65,7 +65,7 @@ IsWaiting o = IfSome o (λ s. IsData s.buffer.picture)
 pub comes_come : (p : PlainPorts) → ArePorts p → Comes (come p)
 comes_come p h = record { ports = h; loose = All-nil IsLight }
 
-comes_then : (c : Came) (next : PlainPorts → Came) → Comes c → ((p : PlainPorts) → ArePorts p → Comes (next p)) → Comes (then c next)
+comes_then : (c : Came) (next : PlainPorts → Came) → Comes c → ((p : PlainPorts) → ArePorts p → Comes (next p)) → Comes ((then) c next)
 comes_then c next h more =
     let d = more c.ports h.ports in
     record { ports = d.ports; loose = All-append IsLight c.loose (next c.ports).loose h.loose d.loose }
@@ -204,9 +204,9 @@ handing_light p s head b time light h =
     let y = row_of r head b.payload in
     let next = after_packet head b.trace.tag (anywhere b) time r in
     let third : PlainPorts → Came = λ q. come (settled time s.app q) in
-    let second : PlainPorts → Came = λ q. then (dropped s.app q) third in
+    let second : PlainPorts → Came = λ q. (then) (dropped s.app q) third in
     let step : PlainPorts → Came = went r.state machine_why.Reset s next in
-    let first : PlainPorts → Came = λ q. then (where_machine (has_machine p s) step q) second in
+    let first : PlainPorts → Came = λ q. (then) (where_machine (has_machine p s) step q) second in
     let c =
     comes_then (back_by (back_of y (anywhere b)) (is_stray y) p) first (back_came (back_of y (anywhere b)) (is_stray y) p (back_light y (anywhere b) light) h) (λ q g.
     comes_then (where_machine (has_machine p s) step q) second
