@@ -78,9 +78,9 @@ advances-admitting b time r = along refl (omega arith) refl (λ e. (e, refl))
 
 -- ---- what is kept by these steps is kept beside what else is known
 
--- what is known of a machine, at an application and a slot, with the ordinal of its connection
+-- what is known of a machine, at its seat, with the ordinal of its connection
 abbrev pub OfMachine : Type 1
-OfMachine = Numbering → ℕ → ℕ → PlainRdp → ℕ → Type 0
+OfMachine = Numbering → Seat → PlainRdp → ℕ → Type 0
 
 -- other connections are made; it is born, with nothing delivered; it goes on
 pub record IsSteady (P : OfMachine) : Type 0 where

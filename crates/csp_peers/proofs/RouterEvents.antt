@@ -61,17 +61,17 @@ module _ (f : Facts) (es : List Entry) (top bound : ℕ) (flows : Flows) (R : Co
   -- what is handed to it is not stale
   handing_fresh : (h : Past) (p : PlainPorts) (o : Option Leaving) (w : Stands the_aim f h p o) (b : Content) (e : Event) → IsPart h (past es) → hears b → IsHanding f p b e → is_stale e ≡ false
   handing_fresh h p o w b e part heard x =
-      let found = found_there p.conns (connection_of (header_at b.header)) (x.app, x.slot) w.good.conns x.at in
-      let n : Now = now_at p w.books x in
-      let is : IsPeer top flows R (flows_of f) w.numbering x n = known_there h p o w (connection_of (header_at b.header)) x found x.kind in
+      let found = found_there p.conns (connection_of (header_at b.header)) x.seat w.good.conns x.at in
+      let n : Now = now_at p w.books x.seat in
+      let is : IsPeer top flows R (flows_of f) w.numbering x.seat n = known_there h p o w (connection_of (header_at b.header)) x.seat found x.kind in
       let fed = fed_by f es top bound flows R hears few allows within one flows_short far known b x.bytes x.parts heard x.read in
-      let most = book_short f es top bound some short _ h w.numbering w.books x n part w.tells refl is.0 in
+      let most = book_short f es top bound some short _ h w.numbering w.books x.seat n part w.tells refl is.0 in
       let admitted = is.0.1.admitted in
       let una = una_within n.machine is.0.1.order in
       let ack = acks b heard fed.0 fed.1 in
       let same : connection_of (header_at b.header) ≡ n.connection = sym (ap connection_in found.is_open) in
       subst (λ v. is_stale v ≡ false) (sym x.told)
-      (not-stale flows R bound within one flows_short w.numbering x n b.trace.tag fed.0 is.1 fed.1 (subst (λ c. R c (flow_of fed.0)) same fed.3) fed.4 (omega (arith, ack, within)) (omega (arith, una, admitted, most, within)))
+      (not-stale flows R bound within one flows_short w.numbering x.seat n b.trace.tag fed.0 is.1 fed.1 (subst (λ c. R c (flow_of fed.0)) same fed.3) fed.4 (omega (arith, ack, within)) (omega (arith, una, admitted, most, within)))
 
   -- nor does any other event tell of a stale copy
   event_fresh : (h : Past) (p : PlainPorts) (o : Option Leaving) (w : Stands the_aim f h p o) (x : OpShown) (a : AnswerShown) (e : Event) → IsPart h (past es) → HearsSo the_aim x a → TellsAt f p x a e → is_stale e ≡ false
