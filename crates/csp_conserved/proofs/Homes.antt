@@ -22,7 +22,7 @@ use Rattle.csp_base.specs.declared.limits.TheConstants.{SLOTS}
 use Rattle.csp_conn.specs.declared.slot.Connection.{Connection}
 use Rattle.csp_conn.specs.declared.slot.Slot.{Slot}
 use Rattle.csp_conn.specs.declared.slot.Slot.TheVariants as slot
-use Rattle.csp_conserved.proofs.Shapes.{accepted_shape, answered_shape, bind_shape, close_shape, connect_shape, delivered_shape, handing_shape, shape, submitting_shape, timed_shape}
+use Rattle.csp_conserved.proofs.Shapes.{accepted_shape, answered_shape, bind_shape, close_shape, connect_shape, delivered_shape, either, handing_shape, shape, submitting_shape, timed_shape}
 use Rattle.csp_crc.specs.Check.{payload_of}
 use Rattle.csp_header.specs.Word.{header_at}
 use Rattle.csp_log.specs.declared.event.Discard.{Discard}
@@ -158,10 +158,6 @@ go_on : (f : Facts) (r : Ruling) (next : Arrival → Told) → GoesBy f r → ((
 go_on f (Left p) next h each = each p
 go_on f (Decided t) next h each = h
 
-go_either : (f : Facts) (b : Bool) (t u : Told) → Goes f t → Goes f u → Goes f (if b then t else u)
-go_either f true t u one other = one
-go_either f false t u one other = other
-
 go_if : (f : Facts) (b : Bool) (t : Told) (p : Arrival) → Goes f t → GoesBy f (if b then Decided t else Left p)
 go_if f true t p h = h
 go_if f false t p h = tt
@@ -172,7 +168,7 @@ go_unless f false t p h = h
 
 go_forwarded : (row : Option Row) (f : Facts) (s : State) (p : Arrival) → ((x : Row) → row ≡ Some x → x.iface < length f.ifaces) → IsHome f s → Goes f (rules.forwarded row s p)
 go_forwarded None f s p leads h = h
-go_forwarded (Some row) f s p leads h = go_either f (row.iface == p.mark) (discarded s why.BackOut p.buffer) (leaving s (rules.by_row row p.buffer)) h (h.0, h.1, leads row refl)
+go_forwarded (Some row) f s p leads h = either (Goes f) (row.iface == p.mark) (discarded s why.BackOut p.buffer) (leaving s (rules.by_row row p.buffer)) h (h.0, h.1, leads row refl)
 
 go_checksum : (checked : Bool) (payload : Option (List ℕ)) (f : Facts) (s : State) (p : Arrival) → IsHome f s → GoesBy f (if checked then rules.with_payload payload s p else Left p)
 go_checksum true None f s p h = h
@@ -185,7 +181,7 @@ go_machine (Some read) f s seat time p h = (handing_shape s.ports seat read.1 (r
 
 go_connection : (f : Facts) (s : State) (seat : Seat) (time : ℕ) (p : Arrival) → seat.app < f.apps → IsHome f s → Goes f (rules.to_connection s seat time p)
 go_connection f s seat time p there h =
-    go_either f (is_reliable p.head.flags.0) (rules.to_machine (parted p.buffer.payload) s seat time p) (leaving s (rules.to_slot seat p.buffer)) (go_machine (parted p.buffer.payload) f s seat time p h) (h.0, h.1, there)
+    either (Goes f) (is_reliable p.head.flags.0) (rules.to_machine (parted p.buffer.payload) s seat time p) (leaving s (rules.to_slot seat p.buffer)) (go_machine (parted p.buffer.payload) f s seat time p h) (h.0, h.1, there)
 
 go_by_connection : (found : Option Seat) (f : Facts) (s : State) (time : ℕ) (p : Arrival) → ((seat : Seat) → found ≡ Some seat → seat.app < f.apps) → IsHome f s → GoesBy f (rules.by_connection found s time p)
 go_by_connection None f s time p there h = tt
@@ -214,11 +210,11 @@ go_opening : (app : ℕ) (f : Facts) (s : State) (time : ℕ) (p : Arrival) → 
 go_opening app f s time p h =
     let free = free_seat s.ports.conns app in
     let i = rules.invitation_of p.buffer in
-    go_either f (is_reliable p.head.flags.0) (rules.inviting i free (router f s) time p) (rules.accepting free s p) (go_inviting i free f s time p h) (go_accepting (first_free s.ports.conns app) f s app p refl h)
+    either (Goes f) (is_reliable p.head.flags.0) (rules.inviting i free (router f s) time p) (rules.accepting free s p) (go_inviting i free f s time p h) (go_accepting (first_free s.ports.conns app) f s app p refl h)
 
 go_by_socket : (owner : Option (ℕ × ℕ)) (f : Facts) (s : State) (time : ℕ) (p : Arrival) → IsHome f s → GoesBy f (rules.by_socket owner f s time p)
 go_by_socket None f s time p h = tt
-go_by_socket (Some owner) f s time p h = go_either f (rules.is_lacking s p) (discarded s why.Required p.buffer) (rules.opening owner.0 f s time p) h (go_opening owner.0 f s time p h)
+go_by_socket (Some owner) f s time p h = either (Goes f) (rules.is_lacking s p) (discarded s why.Required p.buffer) (rules.opening owner.0 f s time p) h (go_opening owner.0 f s time p h)
 
 go_answer : (served : Served) (reply : List ℕ) (f : Facts) (s : State) (p : Arrival) → IsHome f s → Goes f (rules.by_answer served reply f s p)
 go_answer Reply reply f s p h = go_sent f s _ h
@@ -248,7 +244,7 @@ go_heard f s time p h =
 
 go_on_connection : (c : Connection) (f : Facts) (s : State) (seat : Seat) (time : ℕ) (b : Content) → IsHome f s → Goes f (rules.on_connection c (router f s) seat time b)
 go_on_connection c f s seat time b h =
-    go_either f (is_reliable (terms_at s.ports seat).flags) (ported s (submitting s.ports seat b time)) (rules.sent_on c (router f s) seat b) (submitting_shape s.ports seat b time ∙ h.0, h.1, h.2) (go_sent f s _ h)
+    either (Goes f) (is_reliable (terms_at s.ports seat).flags) (ported s (submitting s.ports seat b time)) (rules.sent_on c (router f s) seat b) (submitting_shape s.ports seat b time ∙ h.0, h.1, h.2) (go_sent f s _ h)
 
 go_slot : (x : Slot) (f : Facts) (s : State) (seat : Seat) (time : ℕ) (b : Content) → IsHome f s → Goes f (rules.by_slot x (router f s) seat time b)
 go_slot slot.Free f s seat time b h = h

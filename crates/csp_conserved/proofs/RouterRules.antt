@@ -57,6 +57,7 @@ use Rattle.csp_stack.specs.Rules.{◌>>=◌, Arrival, Decided, Left, accepting, 
 use Rattle.csp_stack.specs.Serving.{facts_of, reply_header, reply_in, with_facts}
 use Rattle.csp_stack.specs.Told.{Told, absorbed, discarded, kept, leaving, ported, spent, unchanged, with_ports}
 use Rattle.csp_conserved.proofs.RouterPorts.{flows_handing, found_low, still_whole, terms_whole}
+use Rattle.csp_conserved.proofs.Shapes.{either}
 
 -- a router in the second state holds what it held in the first and these buffers besides, and its ports are whole
 abbrev pub Adds : State → State → List ℕ → Type 0
@@ -247,10 +248,6 @@ by_mark_adds false f s seat time b e few up free empty w =
     by_slot_adds (slot_at s.ports.conns seat) f s seat time b few (up marked).0 free empty w
 
 -- a port that is asked for: no buffer is there
-either : (P : PlainPorts → Type 0) (b : Bool) (p q : PlainPorts) → P p → P q → P (if b then p else q)
-either P true p q one other = one
-either P false p q one other = other
-
 bind_adds : (s : State) (app port need : ℕ) → AreWhole s.ports → Adds s (with_ports s (bind s.ports app port need)) []
 bind_adds s app port need w =
     let so : PlainPorts → Type 0 = λ q. Adds s (with_ports s q) [] in

@@ -151,13 +151,15 @@ submitting_shape p s b time = by (machine_at p s).state
 
 -- ---- what applications ask
 
--- one of two
-either : {X : Type 0} (f : X → ℕ × ℕ) (n : ℕ × ℕ) (b : Bool) (x y : X) → f x ≡ n → f y ≡ n → f (if b then x else y) ≡ n
-either f n true x y one other = one
-either f n false x y one other = other
+-- what holds of both holds of either
+pub either : {X : Type 0} (P : X → Type 0) (b : Bool) (x y : X) → P x → P y → P (if b then x else y)
+either P true x y one other = one
+either P false x y one other = other
 
 pub bind_shape : (p : PlainPorts) (app port need : ℕ) → shape (bind p app port need) ≡ shape p
-bind_shape p app port need = either shape (shape p) (nat_lt port BINDABLE_PORTS) _ _ (either shape (shape p) (is_some (owner_of p.bound port)) _ _ refl refl) refl
+bind_shape p app port need =
+    let same : PlainPorts → Type 0 = λ q. shape q ≡ shape p in
+    either same (nat_lt port BINDABLE_PORTS) _ _ (either same (is_some (owner_of p.bound port)) _ _ refl refl) refl
 
 gone_on_shape : (c : PlainConns) (own : ℕ) (from : Option ℕ) → shape_of (gone_on c own from) ≡ shape_of c
 gone_on_shape c own None = refl
@@ -167,15 +169,14 @@ linked_shape : (w : Wish) (p : PlainPorts) (r : Request) (own : ℕ) → shape (
 linked_shape w p r own = let c = has.Open (between r.dest r.port own) in gone_on_shape (with_slot p.conns r.seat c) own r.from ∙ slot_shape p.conns r.seat c
 
 pub connect_shape : (o : OwnFlows) (p : PlainPorts) (r : Request) (time : ℕ) → shape (connect o p r time).ports ≡ shape p
-connect_shape o p r time =
-    by (is_free (slot_at p.conns r.seat)) _ _ (by (is_refused p.conns r.dest r.from) _ _ refl (joined_by (own_port_of p.conns r.dest r.from))) refl
+connect_shape o p r time = either same (is_free (slot_at p.conns r.seat)) _ _ (either same (is_refused p.conns r.dest r.from) _ _ refl (by (own_port_of p.conns r.dest r.from))) refl
   where
-    by : (b : Bool) (c d : Came) → shape c.ports ≡ shape p → shape d.ports ≡ shape p → shape (if b then c else d).ports ≡ shape p
-    by = either (λ c. shape c.ports) (shape p)
+    same : Came → Type 0
+    same c = shape c.ports ≡ shape p
 
-    joined_by : (own : Option ℕ) → shape (unwrap_or (option_map (λ own. joined o p r own time) own) (come p)).ports ≡ shape p
-    joined_by None = refl
-    joined_by (Some own) = by (is_reliable r.flags) _ _ (linked_shape wish.Connection p r own) (linked_shape wish.Nothing p r own)
+    by : (own : Option ℕ) → same (unwrap_or (option_map (λ own. joined o p r own time) own) (come p))
+    by None = refl
+    by (Some own) = either same (is_reliable r.flags) _ _ (linked_shape wish.Connection p r own) (linked_shape wish.Nothing p r own)
 
 held_shape : (free : Bool) (p : PlainPorts) (s : Seat) → shape (held_by free p s) ≡ shape p
 held_shape true p s = slot_shape p.conns s has.Held

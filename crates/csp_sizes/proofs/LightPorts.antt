@@ -252,19 +252,20 @@ linked_light : (w : Wish) (p : PlainPorts) (r : Request) (own : ℕ) → ArePort
 linked_light w p r own h =
     with_terms_light (record p { conns = opened p.conns r.seat (between r.dest r.port own) r.from }) r.seat (record (terms_at p r.seat) { prio = r.prio; flags = r.flags; wish = w; is_down = false }) h
 
-either : (b : Bool) (c d : Came) → Comes c → Comes d → Comes (if b then c else d)
-either true c d one other = one
-either false c d one other = other
+-- what holds of both holds of the one that a test chooses
+pub either : {X : Type 0} (P : X → Type 0) (b : Bool) (x y : X) → P x → P y → P (if b then x else y)
+either P true x y one other = one
+either P false x y one other = other
 
 joined_light : (o : OwnFlows) (p : PlainPorts) (r : Request) (own time : ℕ) → o.options.window ≤ 20 → ArePorts p → Comes (joined o p r own time)
 joined_light o p r own time narrow h =
     let q : PlainPorts = linked wish.Connection p r own in
-    either (is_reliable r.flags) (asking o r.seat time q) (plain p r own)
+    either Comes (is_reliable r.flags) (asking o r.seat time q) (plain p r own)
     (begun_light r.seat _ q (connecting_light (start_of o.seed p.made) o.options o.node p.made time narrow) (linked_light wish.Connection p r own h))
     (record { ports = linked_light wish.Nothing p r own h; loose = All-nil IsLight })
 
 pub connect_light : (o : OwnFlows) (p : PlainPorts) (r : Request) (time : ℕ) → o.options.window ≤ 20 → ArePorts p → Comes (connect o p r time)
-connect_light o p r time narrow h = either (is_free (slot_at p.conns r.seat)) _ _ (either (is_refused p.conns r.dest r.from) _ _ (comes_come _ h) (by (own_port_of p.conns r.dest r.from))) (comes_come _ h)
+connect_light o p r time narrow h = either Comes (is_free (slot_at p.conns r.seat)) _ _ (either Comes (is_refused p.conns r.dest r.from) _ _ (comes_come _ h) (by (own_port_of p.conns r.dest r.from))) (comes_come _ h)
   where
     by : (own : Option ℕ) → Comes (unwrap_or (option_map (λ own. joined o p r own time) own) (come p))
     by None = comes_come p h

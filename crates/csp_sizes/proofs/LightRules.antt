@@ -58,7 +58,7 @@ use Rattle.csp_service.specs.declared.answers.Served.{Served}
 use Rattle.csp_service.specs.declared.stats.Count.TheVariants as count
 use Rattle.csp_service.specs.declared.stats.Count.{Count}
 use Rattle.csp_service.specs.declared.stats.Stats.{Stats}
-use Rattle.csp_sizes.proofs.LightPorts.{Comes, accepted_light, close_light, connect_light, handing_light, invited_light, made_light, making_light, submitting_light}
+use Rattle.csp_sizes.proofs.LightPorts.{Comes, accepted_light, close_light, connect_light, either, handing_light, invited_light, made_light, making_light, submitting_light}
 use Rattle.csp_sizes.proofs.LightServices.{answered_few, answered_short}
 use Rattle.csp_sizes.specs.Light.{AreFacts, ArePorts, IsData, IsFew, IsHeld, IsLight, IsLightState, room_of}
 use Rattle.csp_socket.specs.Bound.{owner_of}
@@ -194,11 +194,6 @@ go_on : (P : Arrival → Type 0) (r : Ruling) (next : Arrival → Told) → IsRu
 go_on P (Left p) next h each = each p h
 go_on P (Decided t) next h each = h
 
--- of two, the one that a test chooses
-either : (b : Bool) (t u : Told) → IsTold t → IsTold u → IsTold (if b then t else u)
-either true t u one other = one
-either false t u one other = other
-
 -- a rule of one test
 go_if : (P : Arrival → Type 0) (b : Bool) (t : Told) (p : Arrival) → IsTold t → P p → IsRuled P (if b then Decided t else Left p)
 go_if P true t p told left = told
@@ -210,7 +205,7 @@ Arrives p = IsLight p.buffer
 forwarded_light : (row : Option Row) (s : State) (p : Arrival) → Arrives p → IsLightState s → IsTold (rules.forwarded row s p)
 forwarded_light None s p light h = trashed s p.buffer light h
 forwarded_light (Some row) s p light h =
-    either (row.iface == p.mark) (discarded s why.BackOut p.buffer) (leaving s (rules.by_row row p.buffer)) (trashed s p.buffer light h) (leaves s (rules.by_row row p.buffer) light h)
+    either IsTold (row.iface == p.mark) (discarded s why.BackOut p.buffer) (leaving s (rules.by_row row p.buffer)) (trashed s p.buffer light h) (leaves s (rules.by_row row p.buffer) light h)
 
 go_destination : (here : Bool) (t : Told) (p : Arrival) → Arrives p → IsTold t → IsRuled Arrives (if here then Left p else Decided t)
 go_destination true t p light told = light
@@ -229,15 +224,15 @@ go_machine (Some read) s seat time p less light h =
 
 go_connection : (s : State) (seat : Seat) (time : ℕ) (p : Arrival) → Arrives p → IsLightState s → IsTold (rules.to_connection s seat time p)
 go_connection s seat time p light h =
-    either (is_reliable p.head.flags.0) (rules.to_machine (parted p.buffer.payload) s seat time p) (leaving s (rules.to_slot seat p.buffer))
+    either IsTold (is_reliable p.head.flags.0) (rules.to_machine (parted p.buffer.payload) s seat time p) (leaving s (rules.to_slot seat p.buffer))
     (go_machine (parted p.buffer.payload) s seat time p (parted_short p.buffer.payload) light h) (leaves s (rules.to_slot seat p.buffer) light h)
 
 go_by_connection : (found : Option Seat) (s : State) (time : ℕ) (p : Arrival) → IsCut p → IsLightState s → IsRuled IsCut (rules.by_connection found s time p)
 go_by_connection None s time p cut h = cut
 go_by_connection (Some seat) s time p cut h =
     let required = if rules.is_lacking s p then discarded s why.Required p.buffer else rules.to_connection s seat time p in
-    either (rules.is_mixed s seat p) (discarded s why.Mixed p.buffer) required (trashed s p.buffer cut.light h)
-    (either (rules.is_lacking s p) (discarded s why.Required p.buffer) (rules.to_connection s seat time p) (trashed s p.buffer cut.light h) (go_connection s seat time p cut.light h))
+    either IsTold (rules.is_mixed s seat p) (discarded s why.Mixed p.buffer) required (trashed s p.buffer cut.light h)
+    (either IsTold (rules.is_lacking s p) (discarded s why.Required p.buffer) (rules.to_connection s seat time p) (trashed s p.buffer cut.light h) (go_connection s seat time p cut.light h))
 
 go_accepting : (free : Option Seat) (s : State) (p : Arrival) → Arrives p → IsLightState s → IsTold (rules.accepting free s p)
 go_accepting None s p light h = trashed s p.buffer light h
@@ -286,13 +281,13 @@ go_inviting (Ok i) (Some seat) f s time p narrow light h =
 go_opening : (app : ℕ) (f : Facts) (s : State) (time : ℕ) (p : Arrival) → Arrives p → IsLightState s → IsTold (rules.opening app f s time p)
 go_opening app f s time p light h =
     let free = free_seat s.ports.conns app in
-    either (is_reliable p.head.flags.0) (rules.inviting (rules.invitation_of p.buffer) free (router f s) time p) (rules.accepting free s p)
+    either IsTold (is_reliable p.head.flags.0) (rules.inviting (rules.invitation_of p.buffer) free (router f s) time p) (rules.accepting free s p)
     (go_inviting (rules.invitation_of p.buffer) free f s time p (invitation_in_narrow (parted p.buffer.payload) p.buffer.trace.tag) light h) (go_accepting free s p light h)
 
 go_by_socket : (owner : Option (ℕ × ℕ)) (f : Facts) (s : State) (time : ℕ) (p : Arrival) → IsCut p → IsLightState s → IsRuled IsCut (rules.by_socket owner f s time p)
 go_by_socket None f s time p cut h = cut
 go_by_socket (Some owner) f s time p cut h =
-    either (rules.is_lacking s p) (discarded s why.Required p.buffer) (rules.opening owner.0 f s time p) (trashed s p.buffer cut.light h) (go_opening owner.0 f s time p cut.light h)
+    either IsTold (rules.is_lacking s p) (discarded s why.Required p.buffer) (rules.opening owner.0 f s time p) (trashed s p.buffer cut.light h) (go_opening owner.0 f s time p cut.light h)
 
 go_answer : (served : Served) (reply : List ℕ) (f : Facts) (s : State) (p : Arrival) → (is_checked p.head ≡ true → length reply ≤ 527) → length reply ≤ 531 → Arrives p → IsLightState s
     → IsTold (rules.by_answer served reply f s p)
@@ -329,7 +324,7 @@ heard_light f s time p are light h =
 
 go_on_connection : (c : Connection) (f : Facts) (s : State) (seat : Seat) (time : ℕ) (b : Content) → IsData b → IsLightState s → IsTold (rules.on_connection c (router f s) seat time b)
 go_on_connection c f s seat time b data' h =
-    either (is_reliable (terms_at s.ports seat).flags) (ported s (submitting s.ports seat b time)) (rules.sent_on c (router f s) seat b)
+    either IsTold (is_reliable (terms_at s.ports seat).flags) (ported s (submitting s.ports seat b time)) (rules.sent_on c (router f s) seat b)
     (ported_light s (submitting s.ports seat b time) (submitting_light s.ports seat b time data' h.ports) h)
     (sent_light f s (rules.addressed f c (terms_at s.ports seat) b) (headed_light (rules.header_for f c (terms_at s.ports seat)) b (omega (arith, data'))) h)
 
@@ -342,13 +337,8 @@ go_mark : (unmarked : Bool) (f : Facts) (s : State) (seat : Seat) (time : ℕ) (
 go_mark true f s seat time b data' h = sent_light f s b (omega (arith, data')) h
 go_mark false f s seat time b data' h = go_slot (slot_at s.ports.conns seat) f s seat time b data' h
 
-one_of_three : (b c : Bool) (p q r : PlainPorts) → ArePorts p → ArePorts q → ArePorts r → ArePorts (if b then if c then p else q else r)
-one_of_three true true p q r one two three = one
-one_of_three true false p q r one two three = two
-one_of_three false c p q r one two three = three
-
 go_request : (f : Facts) (s : State) (app time : ℕ) (n : Note) → AreFacts f → IsLightState s → IsTold (rules.requested f s app time n)
-go_request f s app time (note.Bind port need) are h = record { ports = one_of_three (nat_lt port BINDABLE_PORTS) (is_some (owner_of s.ports.bound port)) _ _ _ h.ports h.ports h.ports; trash = h.trash; out = h.out; stats = h.stats }
+go_request f s app time (note.Bind port need) are h = record { ports = either ArePorts (nat_lt port BINDABLE_PORTS) _ _ (either ArePorts (is_some (owner_of s.ports.bound port)) _ _ h.ports h.ports) h.ports; trash = h.trash; out = h.out; stats = h.stats }
 go_request f s app time (note.Connect number dest port prio flags from) are h =
     let r : Request = record { seat = seat app number; dest = dest; port = port; prio = prio; flags = flags; from = from } in
     ported_light s (connect (flows_of f) s.ports r time) (connect_light (flows_of f) s.ports r time are.window h.ports) h
