@@ -355,25 +355,24 @@ binds p app port need =
     one_of (OneMore app p) (nat_lt port BINDABLE_PORTS) _ _ (one_of (OneMore app p) (is_some (owner_of p.bound port)) _ _ (owes p app (note.Refused reason.InUse)) (owes p app note.Bound))
     (owes p app (note.Refused reason.NotBindable))
 
--- so where a connection is asked for
-abbrev Asks : Request → PlainPorts → Came → Type 0
-Asks r p c = OneMore r.seat.app p c.ports
-
-joins : (o : OwnFlows) (p : PlainPorts) (r : Request) (own time : ℕ) → r.seat.slot < SLOTS → Asks r p (joined o p r own time)
+joins : (o : OwnFlows) (p : PlainPorts) (r : Request) (own time : ℕ) → r.seat.slot < SLOTS → OneMore r.seat.app p (joined o p r own time).ports
 joins o p r own time low =
     let begun : Wish → Terms = λ w. record (terms_at p r.seat) { prio = r.prio; flags = r.flags; wish = w; is_down = false } in
     let q : PlainPorts = record (linked wish.Connection p r own) { made = p.made + 1 } in
     let c : Came = asking o r.seat time (linked wish.Connection p r own) in
-    one_of (Asks r p) (is_reliable r.flags) c (plain p r own)
+    one_of (λ (x : Came). OneMore r.seat.app p x.ports) (is_reliable r.flags) c (plain p r own)
     (one_then_none r.seat.app p q c.ports (sets_more p r.seat (begun wish.Connection) low) (machines q r.seat (Some (connecting (start_of o.seed p.made) o.options o.node p.made time))))
     (owes_and_sets p r.seat (begun wish.Nothing) (note.Connected r.seat.slot) (least (weight (terms_at p r.seat))))
 
-pub connects_to : (o : OwnFlows) (p : PlainPorts) (r : Request) (time : ℕ) → r.seat.slot < SLOTS → Asks r p (connect o p r time)
+pub connects_to : (o : OwnFlows) (p : PlainPorts) (r : Request) (time : ℕ) → r.seat.slot < SLOTS → OneMore r.seat.app p (connect o p r time).ports
 connects_to o p r time low =
-    one_of (Asks r p) (is_free (slot_at p.conns r.seat)) _ _
-    (one_of (Asks r p) (is_refused p.conns r.dest r.from) _ _ (owes p r.seat.app (note.Refused reason.PortBusy)) (by (own_port_of p.conns r.dest r.from))) (owes p r.seat.app (note.Refused reason.Busy))
+    one_of so (is_free (slot_at p.conns r.seat)) _ _
+    (one_of so (is_refused p.conns r.dest r.from) _ _ (owes p r.seat.app (note.Refused reason.PortBusy)) (by (own_port_of p.conns r.dest r.from))) (owes p r.seat.app (note.Refused reason.Busy))
   where
-    by : (own : Option ℕ) → Asks r p (unwrap_or (option_map (λ own. joined o p r own time) own) (come p))
+    so : Came → Type 0
+    so c = OneMore r.seat.app p c.ports
+
+    by : (own : Option ℕ) → so (unwrap_or (option_map (λ own. joined o p r own time) own) (come p))
     by None = none_more r.seat.app p p (stays p)
     by (Some own) = joins o p r own time low
 
