@@ -345,8 +345,8 @@ tells s p = sets p s (record (terms_at p s) { is_down = false }) (alike (weight 
 
 -- ---- what an application asks
 
--- one of two
-one_of : {X : Type 0} (P : X → Type 0) (b : Bool) (x y : X) → P x → P y → P (if b then x else y)
+-- what holds of both holds of the one that a test chooses
+pub one_of : {X : Type 0} (P : X → Type 0) (b : Bool) (x y : X) → P x → P y → P (if b then x else y)
 one_of P true x y one other = one
 one_of P false x y one other = other
 

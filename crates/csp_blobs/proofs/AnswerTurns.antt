@@ -74,7 +74,7 @@ use Rattle.csp_prefix.proofs.Public.{task_there}
 use Rattle.csp_blobs.specs.Asking as asking
 use Rattle.csp_blobs.specs.Asking.{AnswerNoMore, answered_in, asked_in, is_note}
 use Rattle.csp_blobs.proofs.AnswerItems.{counted, counted_few, counts_append, none_counts, one_counts}
-use Rattle.csp_blobs.proofs.AnswerPorts.{NoMore, accepts, answers_one, binds, both, connects_to, delivers, due, ends_by, hands, invites, machines, stays, submits_in, tells, times}
+use Rattle.csp_blobs.proofs.AnswerPorts.{NoMore, accepts, answers_one, binds, both, connects_to, delivers, due, ends_by, hands, invites, machines, one_of, stays, submits_in, tells, times}
 
 -- ---- what a router hears leaves no more due
 
@@ -93,10 +93,6 @@ one_rule : (b : Bool) (s : State) (x y : Ruling) → RulesSo s x → RulesSo s y
 one_rule true s x y h k = h
 one_rule false s x y h k = k
 
-one_told : (b : Bool) (s : State) (x y : Told) → Quiet s x → Quiet s y → Quiet s (if b then x else y)
-one_told true s x y h k = h
-one_told false s x y h k = k
-
 sent_so : (own : Bool) (row : Option Row) (s : State) (b : Content) → Quiet s (sent_by own row s b)
 sent_so true row s b = stays s.ports
 sent_so false None s b = stays s.ports
@@ -107,7 +103,7 @@ sends f s b = sent_so ((header_at b.header).dst == f.addr) (route_of s.routes (h
 
 forwards : (row : Option Row) (s : State) (p : Arrival) → Quiet s (forwarded row s p)
 forwards None s p = stays s.ports
-forwards (Some row) s p = one_told (row.iface == p.mark) s (discarded s why.BackOut p.buffer) (leaving s (by_row row p.buffer)) (stays s.ports) (stays s.ports)
+forwards (Some row) s p = one_of (Quiet s) (row.iface == p.mark) (discarded s why.BackOut p.buffer) (leaving s (by_row row p.buffer)) (stays s.ports) (stays s.ports)
 
 payload_so : (o : Option (List ℕ)) (s : State) (p : Arrival) → RulesSo s (with_payload o s p)
 payload_so None s p = stays s.ports
@@ -119,11 +115,11 @@ machine_so (Some read) s seat time p low = hands s.ports seat read.1 (record p.b
 
 connection_so : (s : State) (seat : Seat) (time : ℕ) (p : Arrival) → seat.slot < SLOTS → Quiet s (at_connection seat s time p)
 connection_so s seat time p low =
-    one_told (is_mixed s seat p) s (discarded s why.Mixed p.buffer)
+    one_of (Quiet s) (is_mixed s seat p) (discarded s why.Mixed p.buffer)
     (if is_lacking s p then discarded s why.Required p.buffer else to_connection s seat time p)
     (stays s.ports)
-    (one_told (is_lacking s p) s (discarded s why.Required p.buffer) (to_connection s seat time p) (stays s.ports)
-    (one_told (is_reliable p.head.flags.0) s (to_machine (parted p.buffer.payload) s seat time p) (leaving s (to_slot seat p.buffer))
+    (one_of (Quiet s) (is_lacking s p) (discarded s why.Required p.buffer) (to_connection s seat time p) (stays s.ports)
+    (one_of (Quiet s) (is_reliable p.head.flags.0) (to_machine (parted p.buffer.payload) s seat time p) (leaving s (to_slot seat p.buffer))
     (machine_so (parted p.buffer.payload) s seat time p low) (stays s.ports)))
 
 found_so : (o : Option ℕ) (s : State) (time : ℕ) (p : Arrival) → RulesSo s (by_connection (option_map seat_of o) s time p)
@@ -142,13 +138,13 @@ inviting_so (Ok i) (Some seat) f s time p = invites (flows_of f) s.ports seat (c
 opening_so : (app : ℕ) (f : Facts) (s : State) (time : ℕ) (p : Arrival) → Quiet s (opening app f s time p)
 opening_so app f s time p =
     let free : Option Seat = free_seat s.ports.conns app in
-    one_told (is_reliable p.head.flags.0) s (inviting (invitation_of p.buffer) free (router f s) time p) (accepting free s p)
+    one_of (Quiet s) (is_reliable p.head.flags.0) (inviting (invitation_of p.buffer) free (router f s) time p) (accepting free s p)
     (inviting_so (invitation_of p.buffer) free f s time p) (accepting_so free s p)
 
 socket_so : (owner : Option (ℕ × ℕ)) (f : Facts) (s : State) (time : ℕ) (p : Arrival) → RulesSo s (by_socket owner f s time p)
 socket_so None f s time p = tt
 socket_so (Some owner) f s time p =
-    one_told (is_lacking s p) s (discarded s why.Required p.buffer) (opening owner.0 f s time p) (stays s.ports) (opening_so owner.0 f s time p)
+    one_of (Quiet s) (is_lacking s p) (discarded s why.Required p.buffer) (opening owner.0 f s time p) (stays s.ports) (opening_so owner.0 f s time p)
 
 answer_so : (a : Served) (reply : List ℕ) (f : Facts) (s : State) (p : Arrival) → Quiet s (by_answer a reply f s p)
 answer_so Reply reply f s p = sends f s (reply_in f p.head p.buffer reply)
@@ -197,7 +193,7 @@ hears f s time p =
 
 on_connection_so : (c : Connection) (f : Facts) (s : State) (seat : Seat) (time : ℕ) (b : Content) → Quiet s (on_connection c (router f s) seat time b)
 on_connection_so c f s seat time b =
-    one_told (is_reliable (terms_at s.ports seat).flags) s (ported s (submitting s.ports seat b time)) (sent_on c (router f s) seat b)
+    one_of (Quiet s) (is_reliable (terms_at s.ports seat).flags) (ported s (submitting s.ports seat b time)) (sent_on c (router f s) seat b)
     (submits_in (machine_at s.ports seat).state s.ports seat b time) (sends f s (addressed f c (terms_at s.ports seat) b))
 
 by_slot_so : (x : Slot) (f : Facts) (s : State) (seat : Seat) (time : ℕ) (b : Content) → Quiet s (by_slot x (router f s) seat time b)
