@@ -89,10 +89,6 @@ rules : (s : State) (r : Ruling) (next : Arrival → Told) → RulesSo s r → (
 rules s (Decided t) next h k = h
 rules s (Left p) next h k = k p
 
-one_rule : (b : Bool) (s : State) (x y : Ruling) → RulesSo s x → RulesSo s y → RulesSo s (if b then x else y)
-one_rule true s x y h k = h
-one_rule false s x y h k = k
-
 sent_so : (own : Bool) (row : Option Row) (s : State) (b : Content) → Quiet s (sent_by own row s b)
 sent_so true row s b = stays s.ports
 sent_so false None s b = stays s.ports
@@ -160,7 +156,7 @@ service_so f s time p =
 hears_elsewhere : (f : Facts) (s : State) (time : ℕ) (p : Arrival) → Quiet s (heard_elsewhere f s time p)
 hears_elsewhere f s time p =
     rules s (not_reliable s p) (λ q. by_service f s time q)
-    (one_rule (is_reliable p.head.flags.0) s (Decided (discarded s why.NoSocket p.buffer)) (Left p) (stays s.ports) tt) (λ q. service_so f s time q)
+    (one_of (RulesSo s) (is_reliable p.head.flags.0) (Decided (discarded s why.NoSocket p.buffer)) (Left p) (stays s.ports) tt) (λ q. service_so f s time q)
 
 hears_at_socket : (f : Facts) (s : State) (time : ℕ) (p : Arrival) → Quiet s (heard_at_socket f s time p)
 hears_at_socket f s time p =
@@ -174,19 +170,19 @@ hears_at_port f s time p =
 hears_rest : (f : Facts) (s : State) (time : ℕ) (p : Arrival) → Quiet s (by_rest f s time p)
 hears_rest f s time p =
     rules s (without_checksum s p) (λ q. heard_at_port f s time q)
-    (one_rule (is_checked p.head) s (with_payload (payload_of p.buffer.payload) s p) (Left p) (payload_so (payload_of p.buffer.payload) s p) tt)
+    (one_of (RulesSo s) (is_checked p.head) (with_payload (payload_of p.buffer.payload) s p) (Left p) (payload_so (payload_of p.buffer.payload) s p) tt)
     (λ q. hears_at_port f s time q)
 
 hears_here : (f : Facts) (s : State) (time : ℕ) (p : Arrival) → Quiet s (heard_here f s time p)
 hears_here f s time p =
     rules s (not_secured s p) (λ q. by_rest f s time q)
-    (one_rule (is_secured p.head) s (Decided (discarded (counting s p.mark count.AuthErrors 1) why.Refused p.buffer)) (Left p) (stays s.ports) tt)
+    (one_of (RulesSo s) (is_secured p.head) (Decided (discarded (counting s p.mark count.AuthErrors 1) why.Refused p.buffer)) (Left p) (stays s.ports) tt)
     (λ q. hears_rest f s time q)
 
 hears : (f : Facts) (s : State) (time : ℕ) (p : Arrival) → Quiet s (heard f s time p)
 hears f s time p =
     rules s (for_this_node f s p) (λ q. heard_here f s time q)
-    (one_rule (is_here f.addr p.head) s (Left p) (Decided (forwarded (route_of s.routes p.head.dst) s p)) tt (forwards (route_of s.routes p.head.dst) s p))
+    (one_of (RulesSo s) (is_here f.addr p.head) (Left p) (Decided (forwarded (route_of s.routes p.head.dst) s p)) tt (forwards (route_of s.routes p.head.dst) s p))
     (λ q. hears_here f s time q)
 
 -- ---- what an application hands over leaves one more due where it asks, and else no more
