@@ -14,7 +14,7 @@ use Rattle.csp_can.specs.declared.identifiers.Kind.{Kind}
 use Rattle.csp_can.specs.declared.identifiers.Kind.TheVariants.{Begin, More}
 use Rattle.csp_can.specs.declared.partials.Partial.{Partial}
 use Rattle.csp_can.specs.declared.partials.TheConstants.{MAX_PARTIALS}
-use Rattle.csp_iface.specs.Receiving.{arrived, Heard, frame_heard as heard, frame_read, packet_of, reassembled, traced, followed, read_further}
+use Rattle.csp_iface.specs.Receiving.{arrived, Heard, frame_heard, frame_read, packet_of, reassembled, traced, followed, read_further}
 use Rattle.csp_iface.specs.declared.packet.WholePacket.{WholePacket}
 use Rattle.csp_iface.specs.declared.receiver.Receiver.{Receiver}
 use Rattle.csp_iface.specs.declared.receiver.Receiver.TheVariants as by
@@ -173,7 +173,7 @@ reassembled_of P l a all here =
     reassembled_so (λ header payload trace. P trace) (λ p. P p.trace) (λ b. P b.trace) (λ b h e. h) (λ p b h came e key next. h) (λ p h e. h) l a all here
 
 -- any frame
-pub heard_of : (P : Trace → Type 0) (now : ℕ) (r : Receiver) (f : Frame) → IsKeptOf P r → P (arrived f.trace) → IsHeardOf P (heard now r f)
+pub heard_of : (P : Trace → Type 0) (now : ℕ) (r : Receiver) (f : Frame) → IsKeptOf P r → P (arrived f.trace) → IsHeardOf P (frame_heard now r f)
 heard_of P now r f kept here =
     chosen (f.trace.hops == MAX_HOPS)
   where
@@ -207,13 +207,13 @@ read_by false h = read_further h.receiver
 abbrev pub read_from : Heard → Heard
 read_from h = read_by (is_some h.whole) h
 
-pub read_of : (P : Trace → Type 0) (now : ℕ) (r : Receiver) (f : Frame) → IsKeptOf P r → P (arrived f.trace) → IsHeardOf P (read_from (heard now r f))
+pub read_of : (P : Trace → Type 0) (now : ℕ) (r : Receiver) (f : Frame) → IsKeptOf P r → P (arrived f.trace) → IsHeardOf P (read_from (frame_heard now r f))
 read_of P now r f kept here =
-    chosen (is_some (heard now r f).whole)
+    chosen (is_some (frame_heard now r f).whole)
   where
-    new : IsHeardOf P (heard now r f)
+    new : IsHeardOf P (frame_heard now r f)
     new = heard_of P now r f kept here
 
-    chosen : (b : Bool) → IsHeardOf P (read_by b (heard now r f))
+    chosen : (b : Bool) → IsHeardOf P (read_by b (frame_heard now r f))
     chosen true = new
-    chosen false = further_of P (heard now r f).receiver new.0
+    chosen false = further_of P (frame_heard now r f).receiver new.0

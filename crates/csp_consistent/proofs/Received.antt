@@ -11,10 +11,10 @@ use Rattle.csp_iface.specs.Heeding.{is_for}
 use Rattle.csp_iface.specs.PlainIface.{PlainIface}
 use Rattle.csp_iface.specs.Links.{receiver_for}
 use Rattle.csp_iface.specs.Planning.{plan_of, first_rule, side_plan}
-use Rattle.csp_iface.specs.Receiving.{Heard, arrived, frame_heard as heard, read_further}
+use Rattle.csp_iface.specs.Receiving.{Heard, arrived, frame_heard, read_further}
 use Rattle.csp_iface.specs.Telling.{after_answer, fetched, caught, hearing, pushed, kept, filled, going_on, has_packet, is_too_big, read_after, taken_up, tells, resting, unmoved}
-use Rattle.csp_iface.specs.declared.packet.WholePacket.{WholePacket as Packet}
-use Rattle.csp_iface.specs.declared.plan.IfacePlan.{IfacePlan as Plan}
+use Rattle.csp_iface.specs.declared.packet.WholePacket.{WholePacket}
+use Rattle.csp_iface.specs.declared.plan.IfacePlan.{IfacePlan}
 use Rattle.csp_iface.specs.declared.plan.IfacePlan.TheVariants as plan
 use Rattle.csp_iface.specs.declared.plan.Side.{Side}
 use Rattle.csp_iface.specs.declared.plan.Side.TheVariants as side
@@ -69,10 +69,10 @@ IsAcceptedSo W None = ⊤
 IsAcceptedSo W (Some b) = W b.header b.payload b.trace
 
 -- the interface between its operation and the answer, and after the answer, before it reads on
-abbrev pub waiting : PlainIface → Plan → PlainIface
+abbrev pub waiting : PlainIface → IfacePlan → PlainIface
 waiting s p = resting (record (handed s p) { doing = p })
 
-abbrev pub told : PlainIface → ℕ → Plan → AnswerShown → PlainIface
+abbrev pub told : PlainIface → ℕ → IfacePlan → AnswerShown → PlainIface
 told s now p a = (after_answer (waiting s p) now p a).iface
 
 -- and once it has read on
@@ -80,7 +80,7 @@ abbrev pub read_on_in : PlainIface → PlainIface
 read_on_in s = record s { receiver = (read_after s).receiver; whole = (read_after s).whole }
 
 -- a whole packet is there when a buffer is taken
-pub taking : (back accepted : Option Content) (whole : Option Packet) (own : Plan) → (own ≡ plan.Take → ⊥) → first_rule back accepted whole own ≡ plan.Take → (p : Packet) × (whole ≡ Some p)
+pub taking : (back accepted : Option Content) (whole : Option WholePacket) (own : IfacePlan) → (own ≡ plan.Take → ⊥) → first_rule back accepted whole own ≡ plan.Take → (p : WholePacket) × (whole ≡ Some p)
 taking (Some _) accepted whole own never e = absurd cc
 taking None (Some _) whole own never e = absurd cc
 taking None None (Some p) own never e = (p, refl)
@@ -92,7 +92,7 @@ never_taking side.Sending (_ ∷ _) e = cc
 never_taking side.Receiving fs e = cc
 
 -- no accepted packet is there when a frame is popped
-receiving : (back accepted : Option Content) (whole : Option Packet) (own : Plan) → first_rule back accepted whole own ≡ plan.Receive → accepted ≡ None
+receiving : (back accepted : Option Content) (whole : Option WholePacket) (own : IfacePlan) → first_rule back accepted whole own ≡ plan.Receive → accepted ≡ None
 receiving (Some _) accepted whole own e = absurd cc
 receiving None (Some _) whole own e = absurd cc
 receiving None None whole own e = refl
@@ -106,12 +106,12 @@ came P n i all =
 -- where each frame of a kind that is heard leaves something of a kind, and a packet of a kind if one is whole with it; frames that an interface doesn't heed
 -- it doesn't hear
 module _ (W : ℕ → List ℕ → Trace → Type 0) (K : Receiver → Type 0) (G : Frame → Type 0)
-    (hears : (now : ℕ) (r : Receiver) (f : Frame) → K r → G f → IsHeardSo W K (read_from (heard now r f))) (rests : (r : Receiver) → K r → IsHeardSo W K (read_further r)) where
+    (hears : (now : ℕ) (r : Receiver) (f : Frame) → K r → G f → IsHeardSo W K (read_from (frame_heard now r f))) (rests : (r : Receiver) → K r → IsHeardSo W K (read_further r)) where
   -- what an interface has in hand is so
   abbrev IsHolding : PlainIface → Type 0
   IsHolding s = IsWholeSo W s.whole × IsAcceptedSo W s.accepted × K s.receiver
 
-  handed_holding : (s : PlainIface) (p : Plan) → IsHolding s → IsHolding (waiting s p)
+  handed_holding : (s : PlainIface) (p : IfacePlan) → IsHolding s → IsHolding (waiting s p)
   handed_holding s plan.Rest h = h
   handed_holding s plan.Return h = h
   handed_holding s plan.Deliver h = (h.0, tt, h.2)
@@ -138,7 +138,7 @@ module _ (W : ℕ → List ℕ → Trace → Type 0) (K : Receiver → Type 0) (
       taken false = h
   fetched_holding (item.Note _) s h = h
 
-  filled_of : (whole : Option Packet) (p : Packet) (b : Content) → whole ≡ Some p → IsWholeSo W whole → W (filled whole b).header (filled whole b).payload (filled whole b).trace
+  filled_of : (whole : Option WholePacket) (p : WholePacket) (b : Content) → whole ≡ Some p → IsWholeSo W whole → W (filled whole b).header (filled whole b).payload (filled whole b).trace
   filled_of None p b e h = absurd cc
   filled_of (Some q) p b e h = h
 
@@ -163,22 +163,22 @@ module _ (W : ℕ → List ℕ → Trace → Type 0) (K : Receiver → Type 0) (
   heard_holding s now f none h here =
       by (is_for s.heeds f) refl
     where
-      by : (b : Bool) → is_for s.heeds f ≡ b → IsHolding (read_on_in (hearing (if b then heard now s.receiver f else unmoved s) (waiting s plan.Receive)).iface)
+      by : (b : Bool) → is_for s.heeds f ≡ b → IsHolding (read_on_in (hearing (if b then frame_heard now s.receiver f else unmoved s) (waiting s plan.Receive)).iface)
       by true is =
-          let t : PlainIface = (hearing (heard now s.receiver f) (waiting s plan.Receive)).iface in
+          let t : PlainIface = (hearing (frame_heard now s.receiver f) (waiting s plan.Receive)).iface in
           let new : IsHeardSo W K (going_on (has_packet t) t) =
-          reads_heard (is_some (heard now s.receiver f).whole) (is_some s.accepted) (heard now s.receiver f) (waiting s plan.Receive) (ap is_some none) (hears now s.receiver f h.2 (here is)) in
+          reads_heard (is_some (frame_heard now s.receiver f).whole) (is_some s.accepted) (frame_heard now s.receiver f) (waiting s plan.Receive) (ap is_some none) (hears now s.receiver f h.2 (here is)) in
           (new.1, h.1, new.0)
       by false is = reads (waiting s plan.Receive) h
 
-  told_holding : (s : PlainIface) (now : ℕ) (p : Plan) (a : AnswerShown) → (p ≡ plan.Take → (k : Packet) × (s.whole ≡ Some k)) → (p ≡ plan.Receive → s.accepted ≡ None) → IsHolding s
+  told_holding : (s : PlainIface) (now : ℕ) (p : IfacePlan) (a : AnswerShown) → (p ≡ plan.Take → (k : WholePacket) × (s.whole ≡ Some k)) → (p ≡ plan.Receive → s.accepted ≡ None) → IsHolding s
       → AllByRecursion (IsSuchFrame (IsSuchIfHeeded s.heeds G)) (got_by (queue.Rx s.number) (op_of s p) a) → IsHolding (read_on_in (told s now p a))
   told_holding s now plan.Return answer.Given take none h got = reads (told s now plan.Return answer.Given) h
   told_holding s now plan.Return (answer.PoolFull b) take none h got = reads (told s now plan.Return (answer.PoolFull b)) h
   told_holding s now plan.Deliver answer.Pushed take none h got = reads (told s now plan.Deliver answer.Pushed) (h.0, tt, h.2)
   told_holding s now plan.Deliver (answer.Full i) take none h got = reads (told s now plan.Deliver (answer.Full i)) (h.0, tt, h.2)
   told_holding s now plan.Take (answer.Taken b) take none h got =
-      let one : (k : Packet) × (s.whole ≡ Some k) = take refl in
+      let one : (k : WholePacket) × (s.whole ≡ Some k) = take refl in
       reads (told s now plan.Take (answer.Taken b)) (tt, filled_of s.whole one.0 b one.1 h.0, h.2)
   told_holding s now plan.Take answer.NoBuffer take none h got = reads (told s now plan.Take answer.NoBuffer) (tt, h.1, h.2)
   told_holding s now plan.Transmit answer.Pushed take none h got = reads (told s now plan.Transmit answer.Pushed) (pushed_holding (waiting s plan.Transmit).frames (waiting s plan.Transmit) h)
@@ -210,7 +210,7 @@ module _ (W : ℕ → List ℕ → Trace → Type 0) (K : Receiver → Type 0) (
   transmitted_of number (Some f) answer.Pushed = tt
   transmitted_of number (Some f) _ = tt
 
-  put_of : (s : PlainIface) (p : Plan) (a : AnswerShown) → IsHolding s → AllByRecursion (IsPacketSo W) (put_by queue.Inbox (op_of s p) a)
+  put_of : (s : PlainIface) (p : IfacePlan) (a : AnswerShown) → IsHolding s → AllByRecursion (IsPacketSo W) (put_by queue.Inbox (op_of s p) a)
   put_of s plan.Rest a h = tt
   put_of s plan.Return a h = given_of s.back a
   put_of s plan.Deliver a h = delivered_of s.number s.accepted a h.1
@@ -223,7 +223,7 @@ module _ (W : ℕ → List ℕ → Trace → Type 0) (K : Receiver → Type 0) (
 abbrev Bears : (ℕ → ℕ → LinkKind → ℕ → Option ℕ → Type 0) → PlainIface → Type 0
 Bears B s = B s.node s.number s.kind s.mtu s.heeds
 
-handed_bears : (B : ℕ → ℕ → LinkKind → ℕ → Option ℕ → Type 0) (s : PlainIface) (p : Plan) → Bears B s → Bears B (waiting s p)
+handed_bears : (B : ℕ → ℕ → LinkKind → ℕ → Option ℕ → Type 0) (s : PlainIface) (p : IfacePlan) → Bears B s → Bears B (waiting s p)
 handed_bears B s plan.Rest h = h
 handed_bears B s plan.Return h = h
 handed_bears B s plan.Deliver h = h
@@ -255,7 +255,7 @@ caught_bears B now (item.Frame _) s h = h
 caught_bears B now (item.Packet _ _) s h = h
 caught_bears B now (item.Note _) s h = h
 
-told_bears : (B : ℕ → ℕ → LinkKind → ℕ → Option ℕ → Type 0) (s : PlainIface) (now : ℕ) (p : Plan) (a : AnswerShown) → Bears B s → Bears B (told s now p a)
+told_bears : (B : ℕ → ℕ → LinkKind → ℕ → Option ℕ → Type 0) (s : PlainIface) (now : ℕ) (p : IfacePlan) (a : AnswerShown) → Bears B s → Bears B (told s now p a)
 told_bears B s now plan.Return answer.Given h = h
 told_bears B s now plan.Return (answer.PoolFull b) h = h
 told_bears B s now plan.Deliver answer.Pushed h = h
@@ -295,7 +295,7 @@ step_heeding number heeds s now a h = step_bears (λ n k kind mtu x. (k ≡ numb
 
 -- where each frame of a kind that is heard keeps what is known, each packet that an interface handed to its inbox is of the kind of those that were whole
 module _ (W : ℕ → List ℕ → Trace → Type 0) (K : Receiver → Type 0) (G : Frame → Type 0)
-    (hears : (now : ℕ) (r : Receiver) (f : Frame) → K r → G f → IsHeardSo W K (read_from (heard now r f))) (rests : (r : Receiver) → K r → IsHeardSo W K (read_further r)) where
+    (hears : (now : ℕ) (r : Receiver) (f : Frame) → K r → G f → IsHeardSo W K (read_from (frame_heard now r f))) (rests : (r : Receiver) → K r → IsHeardSo W K (read_further r)) where
   run_received : (number : ℕ) (heeds : Option ℕ) (es : List Entry) (time : ℕ) (s : PlainIface) → IsRun party_steps time (an_iface s) es → IsHeeding number heeds s → IsHolding W K G hears rests s
       → AllByRecursion (IsSuchFrame (IsSuchIfHeeded heeds G)) (gets (queue.Rx number) es) → AllByRecursion (IsPacketSo W) (puts queue.Inbox es)
   run_received number heeds [] time s run heeding h got = tt

@@ -14,7 +14,7 @@ use Rattle.csp_iface.specs.PlainIface.{PlainIface}
 use Rattle.csp_iface.specs.Planning.{plan_of}
 use Rattle.csp_iface.specs.Sending.{sent_trace, next_node, frames_of, can_frame}
 use Rattle.csp_iface.specs.Telling.{after_answer, caught, pushed, kept, fetched as told_fetched, tells, bad, concluded, is_too_big, taken_up}
-use Rattle.csp_iface.specs.declared.plan.IfacePlan.{IfacePlan as Plan}
+use Rattle.csp_iface.specs.declared.plan.IfacePlan.{IfacePlan}
 use Rattle.csp_iface.specs.declared.plan.IfacePlan.TheVariants as plan
 use Rattle.csp_iface.specs.declared.sender.TheConstants.{IDS}
 use Rattle.csp_log.specs.Moving.{moved_by}
@@ -72,7 +72,7 @@ frames_traces Q link.Kiss serial next b t here = (here, tt)
 frames_traces Q link.KissHeader serial next b t here = (here, tt)
 frames_traces Q link.Can serial next b t here = can_traces Q t (map written (fragments_of b.header b.payload next (serial % IDS))) here
 
-handed_such : (Q : Frame → Type 0) (s : PlainIface) (p : Plan) → AllByRecursion Q s.frames → AllByRecursion Q (waiting s p).frames
+handed_such : (Q : Frame → Type 0) (s : PlainIface) (p : IfacePlan) → AllByRecursion Q s.frames → AllByRecursion Q (waiting s p).frames
 handed_such Q s plan.Rest h = h
 handed_such Q s plan.Return h = h
 handed_such Q s plan.Deliver h = h
@@ -126,11 +126,11 @@ caught_such Q now (item.Packet _ _) s h = h
 caught_such Q now (item.Note _) s h = h
 
 -- what a turn fetched
-abbrev IsFreshIn : (Frame → Type 0) → PlainIface → Plan → AnswerShown → Type 0
+abbrev IsFreshIn : (Frame → Type 0) → PlainIface → IfacePlan → AnswerShown → Type 0
 IsFreshIn Q s plan.Fetch (answer.Popped i) = IsFresh Q s i
 IsFreshIn Q s _ _ = ⊤
 
-told_such : (Q : Frame → Type 0) (s : PlainIface) (now : ℕ) (p : Plan) (a : AnswerShown) → AllByRecursion Q s.frames → Fits (op_of s p) a → IsFreshIn Q s p a → AllByRecursion Q (told s now p a).frames
+told_such : (Q : Frame → Type 0) (s : PlainIface) (now : ℕ) (p : IfacePlan) (a : AnswerShown) → AllByRecursion Q s.frames → Fits (op_of s p) a → IsFreshIn Q s p a → AllByRecursion Q (told s now p a).frames
 told_such Q s now plan.Return answer.Given h fits here = h
 told_such Q s now plan.Return (answer.PoolFull b) h fits here = h
 told_such Q s now plan.Deliver answer.Pushed h fits here = h
@@ -160,7 +160,7 @@ delivered_put Q number n None a = tt
 delivered_put Q number n (Some b) answer.Pushed = tt
 delivered_put Q number n (Some b) _ = tt
 
-put_such : (Q : Frame → Type 0) (number : ℕ) (s : PlainIface) (p : Plan) (a : AnswerShown) → AllByRecursion Q s.frames → AllByRecursion (IsSuchFrame Q) (put_by (queue.Tx number) (op_of s p) a)
+put_such : (Q : Frame → Type 0) (number : ℕ) (s : PlainIface) (p : IfacePlan) (a : AnswerShown) → AllByRecursion Q s.frames → AllByRecursion (IsSuchFrame Q) (put_by (queue.Tx number) (op_of s p) a)
 put_such Q number s plan.Rest a h = tt
 put_such Q number s plan.Return a h = given_put Q number s.back a
 put_such Q number s plan.Deliver a h = delivered_put Q number s.number s.accepted a
@@ -250,7 +250,7 @@ later_none n serial k o h =
 this_begun : (serial k : ℕ) (x : Marked) → (if list_any (is_beginning serial) (event.Transmitted serial ∷ bad k) then Some x else None) ≡ Some x
 this_begun serial k x = ap (λ c. if c || list_any (is_beginning serial) (bad k) then Some x else None) (eq-eqb serial serial refl)
 
-pub turn_silent : (n : ℕ) (s : PlainIface) (now : ℕ) (p : Plan) (a : AnswerShown) (k : ℕ) → (told s now p a).serial ≤ n → begun_by n ((after_answer (waiting s p) now p a).events ++ bad k) (op_of s p) a ≡ None
+pub turn_silent : (n : ℕ) (s : PlainIface) (now : ℕ) (p : IfacePlan) (a : AnswerShown) (k : ℕ) → (told s now p a).serial ≤ n → begun_by n ((after_answer (waiting s p) now p a).events ++ bad k) (op_of s p) a ≡ None
 turn_silent n s now plan.Fetch (answer.Popped (item.Packet mark b)) k h = taken (is_too_big s b) h
   where
     taken : (big : Bool) → (taken_up big mark b (waiting s plan.Fetch)).iface.serial ≤ n → begun_by n ((taken_up big mark b (waiting s plan.Fetch)).events ++ bad k) (op_of s plan.Fetch) (answer.Popped (item.Packet mark b)) ≡ None
@@ -266,7 +266,7 @@ turn_silent n s now plan.Take a k h = nothing _ None refl
 turn_silent n s now plan.Transmit a k h = nothing _ _ (transmitted_marked s.number (slice_get s.frames 0) a)
 turn_silent n s now plan.Receive a k h = nothing _ None refl
 
-pub handed_serial : (s : PlainIface) (p : Plan) → (waiting s p).serial ≡ s.serial
+pub handed_serial : (s : PlainIface) (p : IfacePlan) → (waiting s p).serial ≡ s.serial
 handed_serial s plan.Rest = refl
 handed_serial s plan.Return = refl
 handed_serial s plan.Deliver = refl
@@ -301,7 +301,7 @@ caught_serial now (item.Note _) s = refl
 same_serial : (m n : ℕ) → n ≡ m → m ≤ n
 same_serial m n e = omega (arith, e)
 
-told_serial : (s : PlainIface) (now : ℕ) (p : Plan) (a : AnswerShown) → s.serial ≤ (told s now p a).serial
+told_serial : (s : PlainIface) (now : ℕ) (p : IfacePlan) (a : AnswerShown) → s.serial ≤ (told s now p a).serial
 told_serial s now plan.Return answer.Given = le_refl s.serial
 told_serial s now plan.Return (answer.PoolFull b) = le_refl s.serial
 told_serial s now plan.Deliver answer.Pushed = le_refl s.serial
@@ -341,7 +341,7 @@ fresh_item node number kind mtu all s k rest (item.Packet mark b) on e = taken (
 fresh_item node number kind mtu all s k rest (item.Frame _) on e = tt
 fresh_item node number kind mtu all s k rest (item.Note _) on e = tt
 
-fresh_turn : (node number : ℕ) (kind : LinkKind) (mtu : ℕ) (all : List Entry) (s : PlainIface) (now k : ℕ) (rest : List Marked) (p : Plan) (a : AnswerShown) → IsOn node number kind mtu s
+fresh_turn : (node number : ℕ) (kind : LinkKind) (mtu : ℕ) (all : List Entry) (s : PlainIface) (now k : ℕ) (rest : List Marked) (p : IfacePlan) (a : AnswerShown) → IsOn node number kind mtu s
     → filter_map (begun_in s.serial) all ≡ cons_option (begun_by s.serial ((after_answer (waiting s p) now p a).events ++ bad k) (op_of s p) a) rest
     → IsFreshIn (IsSentIn node number kind mtu all) s p a
 fresh_turn node number kind mtu all s now k rest plan.Fetch (answer.Popped i) on e = fresh_item node number kind mtu all s k rest i on e
@@ -358,7 +358,7 @@ run_sent : (node number : ℕ) (kind : LinkKind) (mtu : ℕ) (all es : List Entr
 run_sent node number kind mtu all [] time s run on alike h = tt
 run_sent node number kind mtu all (e ∷ es) time s run on alike h =
     let Q : Frame → Type 0 = IsSentIn node number kind mtu all in
-    let p : Plan = plan_of s in
+    let p : IfacePlan = plan_of s in
     let k : ℕ = (concluded (asked s e.time) e.time e.answer).refused in
     let fresh : IsFreshIn Q s p e.answer =
     fresh_turn node number kind mtu all s e.time k (filter_map (begun_in s.serial) es) p e.answer on

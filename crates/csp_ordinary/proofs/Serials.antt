@@ -8,7 +8,7 @@ use Rattle.csp_deck.specs.Runs.{IsRun}
 use Rattle.csp_iface.specs.Asking.{asked}
 use Rattle.csp_iface.specs.PlainIface.{PlainIface}
 use Rattle.csp_iface.specs.Planning.{plan_of}
-use Rattle.csp_iface.specs.Telling.{bad, caught, concluded, fetched as told_fetched, is_too_big, kept, pushed, taken_up, tells, after_answer}
+use Rattle.csp_iface.specs.Telling.{bad, caught, concluded, fetched, is_too_big, kept, pushed, taken_up, tells, after_answer}
 use Rattle.csp_iface.specs.declared.plan.IfacePlan.{IfacePlan}
 use Rattle.csp_iface.specs.declared.plan.IfacePlan.TheVariants as plan
 use Rattle.csp_log.specs.PlainLog.{all_events}
@@ -37,7 +37,7 @@ at_most : (m n c : ℕ) → n ≡ m → n ≤ m + c
 at_most m n c e = omega (arith, e)
 
 -- a turn raises the serial by no more than it tells
-fetched_counts : (i : ItemShown) (s : PlainIface) → (told_fetched i s).iface.serial ≤ s.serial + count (told_fetched i s).events
+fetched_counts : (i : ItemShown) (s : PlainIface) → (fetched i s).iface.serial ≤ s.serial + count (fetched i s).events
 fetched_counts (item.Packet mark b) s =
     taken (is_too_big s b)
   where

@@ -12,7 +12,7 @@ use Rattle.csp_app.specs.Slots.{slot_at}
 use Rattle.csp_app.specs.Steps.{answered, batch, first_rule, gives_up, give_plan, has_passed, is_enough, note_plan, packet_made, packet_plan, plan_of, pushed_one, recv_end, recv_plan, step_plan, turn_of, wait_end}
 use Rattle.csp_app.specs.Telling.{at_rest, tells}
 use Rattle.csp_app.specs.Turn.{Turn, gives, giving_op, op_of, popped, pops, pushes, pushing_op, rests, takes, told_of, until_told}
-use Rattle.csp_app.specs.declared.plan.AppPlan.{AppPlan as Plan}
+use Rattle.csp_app.specs.declared.plan.AppPlan.{AppPlan}
 use Rattle.csp_app.specs.declared.plan.AppPlan.TheVariants as plan
 use Rattle.csp_buffer.specs.Content.{Content}
 use Rattle.csp_consistent.proofs.Public.{each_at, each_if}
@@ -46,7 +46,7 @@ abbrev pub PutsSo : (ItemShown → Type 0) → PlainStep → Type 0
 PutsSo P x = ((j : ℕ) (b : Content) → P (item.Packet (batch_of x).mark (filled (batch_of x) j b))) × NotesSo P x
 
 -- so is the note of a turn's plan
-abbrev PlansSo : (ItemShown → Type 0) → Plan → Type 0
+abbrev PlansSo : (ItemShown → Type 0) → AppPlan → Type 0
 PlansSo P (plan.Ask n) = P (item.Note n)
 PlansSo P _ = ⊤
 
@@ -104,7 +104,7 @@ module _ (P : ItemShown → Type 0) where
   step_so s (Some (step.Close slot)) h = note_so s.asked (note.Close slot) h.1
   step_so s (Some (step.Wait rounds)) h = tt
 
-  first_so : (taken : Option Content) (refused : Bool) (own : Plan) → PlansSo P own → PlansSo P (first_rule taken refused own)
+  first_so : (taken : Option Content) (refused : Bool) (own : AppPlan) → PlansSo P own → PlansSo P (first_rule taken refused own)
   first_so (Some b) refused own h = tt
   first_so None true own h = tt
   first_so None false own h = h
@@ -129,7 +129,7 @@ module _ (P : ItemShown → Type 0) where
   giving_back (Some b) (answer.Full i) f = absurd f
   giving_back _ _ f = tt
 
-  fits_back : (s : PlainApp) (now : ℕ) (p : Plan) (a : AnswerShown) → IfSome s.made (λ b. P (item.Packet s.mark b)) → PlansSo P p → Fits (op_of s.number (turn_of s now p)) a → BringsSo P a
+  fits_back : (s : PlainApp) (now : ℕ) (p : AppPlan) (a : AnswerShown) → IfSome s.made (λ b. P (item.Packet s.mark b)) → PlansSo P p → Fits (op_of s.number (turn_of s now p)) a → BringsSo P a
   fits_back s now plan.Return a h k f = giving_back s.taken a f
   fits_back s now plan.Give a h k f = giving_back (slice_get s.held 0) a f
   fits_back s now (plan.Ask n) a h k f = pushing_back s.number (Some (item.Note n)) a k f
@@ -154,7 +154,7 @@ module _ (P : ItemShown → Type 0) where
   giving_put q None a = tt
   giving_put q (Some b) a = tt
 
-  turn_puts : (q : QueueId) (s : PlainApp) (now : ℕ) (p : Plan) (a : AnswerShown) → IfSome s.made (λ b. P (item.Packet s.mark b)) → PlansSo P p → AllByRecursion P (put_by q (op_of s.number (turn_of s now p)) a)
+  turn_puts : (q : QueueId) (s : PlainApp) (now : ℕ) (p : AppPlan) (a : AnswerShown) → IfSome s.made (λ b. P (item.Packet s.mark b)) → PlansSo P p → AllByRecursion P (put_by q (op_of s.number (turn_of s now p)) a)
   turn_puts q s now plan.Return a h k = giving_put q s.taken a
   turn_puts q s now plan.Give a h k = giving_put q (slice_get s.held 0) a
   turn_puts q s now (plan.Ask n) a h k = pushing_put q s.number (Some (item.Note n)) a k
@@ -204,7 +204,7 @@ module _ (P : ItemShown → Type 0) (steps : List PlainStep) (nothing : (j : ℕ
   back_so (item.Frame f) g = tt
   back_so (item.Note n) g = tt
 
-  leaves : (s : PlainApp) (now : ℕ) (p : Plan) → Stands P steps s → Leaves P steps (turn_of s now p)
+  leaves : (s : PlainApp) (now : ℕ) (p : AppPlan) → Stands P steps s → Leaves P steps (turn_of s now p)
   leaves s now plan.Rest h = h
   leaves s now plan.Return h = (h, h, λ b. h)
   leaves s now plan.Look h = (h, λ n t g. g)

@@ -195,4 +195,3 @@ said_so P es nth nothing each =
     by : IsSearched es nth (apps_in es) (said_of es nth) → P (said_of es nth)
     by (inl none) = subst P (sym none.0) nothing
     by (inr on) = subst P (sym on.same) (each on.app on.opening on.flow)
-

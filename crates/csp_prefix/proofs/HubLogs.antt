@@ -315,4 +315,3 @@ shown_all R number serial (e ∷ es) own got = (
 pub iface_shows : (R : Content → Type 0) (node number serial : ℕ) (kind : LinkKind) (mtu : ℕ) (heeds : Option ℕ) (es : List Entry) → IsRun party_steps 0 (an_iface (iface_opening node number kind mtu heeds)) es
     → AllByRecursion (IsOfKind R) (gets (queue.Out number) es) → AllByRecursion (λ e. (b : Content) → shown_in serial e ≡ Some b → R b) es
 iface_shows R node number serial kind mtu heeds es run got = shown_all R number serial es (fetches_from node number es 0 (iface_opening node number kind mtu heeds) run (refl, refl)) got
-

@@ -341,4 +341,3 @@ receiver-kept o flows = record {
 
 pub receiver-begins : (flows : Flows) → Receives (IsReceiver flows) flows
 receiver-begins flows m seat n nth flow i e = begins-told flows n nth flow (receives-over flows n.machine.state n i) e
-

@@ -178,4 +178,3 @@ sender-says o m seat n time j i e = says-job o m seat n time j e i
 
 pub sender-opens : (o : OwnFlows) → OpensNumbered (IsSender o)
 sender-opens o m seat n nth peer i e = number-told o m seat n 0 nth peer (sends-over o m seat n.machine.state n i) e
-

@@ -281,4 +281,3 @@ sender-kept o = record {
       let is_open = delivers-open n.machine.state n.machine b e in
       sender-on o m seat _ n (keeping_again c (without_delivery n.machine)) (goes-to Open n.machine.state _ n.machine _ (sym is_open) (goes-kept-again c n.machine is_open)) i;
 }
-

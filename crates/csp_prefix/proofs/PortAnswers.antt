@@ -101,4 +101,3 @@ module _ {Is : Numbering → Seat → Now → Type 0} {m : Numbering} {ordinals 
 
   pub answered_answers : (first : Owed) (rest : List Owed) → p.owed ≡ first ∷ rest → Answers Is m ordinals books p.conns.apps first (answered p)
   answered_answers first rest e = subst (λ (os : List Owed). Answers Is m ordinals books p.conns.apps first (answered_by os p)) (sym e) (answer_on first.app first.note rest e)
-

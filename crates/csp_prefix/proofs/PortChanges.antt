@@ -282,4 +282,3 @@ module _ {o : OwnFlows} {C : Coming} {Is : Numbering → Seat → Now → Type 0
   went_leaves =
       let k = by_states before r.state refl refl in
       record { same = k.same; new = k.new; fine = k.fine }
-

@@ -29,7 +29,7 @@ use Rattle.csp_prefix.proofs.PortSlots.{AreFine, AreFineBut, ended_but, look, ma
 use Rattle.csp_prefix.proofs.PortViews.{View, now_of, view}
 use Rattle.csp_prefix.specs.Ports.{AreGood, Books, Comes, IsInUse, IsPlain, IsSlot, IsVacant, Ordinals, ends_due, waiting_on}
 use Rattle.csp_prefix.specs.Slots.{Coming, IsKept, Now, Numbering}
-use Rattle.csp_prefix.specs.Slots.{with_machine as with_other}
+use Rattle.csp_prefix.specs.Slots.{with_machine}
 
 -- ---- the close
 
@@ -86,7 +86,7 @@ module _ {o : OwnFlows} {C : Coming} {Is : Numbering → Seat → Now → Type 0
       let x = view p books seat in
       let n = now_of (record x { machine = rested (closing time x.machine) }) in
       let is : Is m seat (now_of x) = used Is m seat x.what x.terms (now_of x) c e f (g.slots seat here there) in
-      using Is m seat x.what (record x.terms { wish = w }) n c e f (kept.rests m seat (with_other (closing time x.machine) (now_of x)) (kept.closes m seat (now_of x) time is))
+      using Is m seat x.what (record x.terms { wish = w }) n c e f (kept.rests m seat (with_machine (closing time x.machine) (now_of x)) (kept.closes m seat (now_of x) time is))
   closed_use c false w e f =
       let x = view p books seat in
       let n = now_of (record x { machine = rested (closing time x.machine) }) in
@@ -158,4 +158,3 @@ module _ {o : OwnFlows} {C : Coming} {Is : Numbering → Seat → Now → Type 0
 
   pub close_comes : Comes Is m ordinals books p.conns.apps (close p seat time)
   close_comes = comes_of (close_on (is_closing (terms_at p seat).wish) refl) (λ _. tt)
-

@@ -178,4 +178,3 @@ module _ {o : OwnFlows} {C : Coming} {Is : Numbering → Seat → Now → Type 0
         let x = view p books a in
         record { counted = f.counted; ends = f.ends; over = f.over; waits = f.waits; holds = grown_slot x.what x.terms old new a (now_of x) g f.holds };
   }
-

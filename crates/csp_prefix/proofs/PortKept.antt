@@ -30,4 +30,3 @@ ports_kept o C Is kept = record {
   tells = λ m ordinals books p seat g. told_good g seat;
   answers = λ m ordinals books p first rest e g. answered_answers g first rest e;
 }
-

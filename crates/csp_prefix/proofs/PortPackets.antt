@@ -14,7 +14,7 @@ use Rattle.csp_ports.specs.Tasks.{delivered, without_packet}
 use Rattle.csp_ports.specs.declared.flows.OwnFlows.{OwnFlows}
 use Rattle.csp_rdp.specs.Jobs.{delivering, delivery, delivery_in, without_delivery}
 use Rattle.csp_rdp.specs.Machine.{PlainRdp}
-use Rattle.csp_rdp.specs.Table.{after, back_of, after_packet as handed, is_stray, row_in, row_of}
+use Rattle.csp_rdp.specs.Table.{after, back_of, after_packet, is_stray, row_in, row_of}
 use Rattle.csp_rdp.specs.declared.answers.State.{State}
 use Rattle.csp_rdp.specs.declared.answers.State.TheVariants.{Closed, CloseWait, Open, SynRcvd, SynSent}
 use Rattle.csp_rdp.specs.declared.answers.Cause.TheVariants as machine_why
@@ -27,7 +27,7 @@ use Rattle.csp_prefix.proofs.PortSlots.{AreFine, AreFineBut, book_but, look, mac
 use Rattle.csp_prefix.proofs.PortViews.{View, now_of, view}
 use Rattle.csp_prefix.specs.Ports.{AreGood, Books, Comes, IsReliableOn, Ordinals, connection_in, with_down}
 use Rattle.csp_prefix.specs.Slots.{Coming, IsKept, Now, Numbering, Opens, after_delivering, after_opening}
-use Rattle.csp_prefix.specs.Slots.{with_machine as with_other}
+use Rattle.csp_prefix.specs.Slots.{with_machine}
 use Rattle.csp_conn.specs.PlainConns.{slot_at}
 
 -- every application but this one
@@ -65,7 +65,7 @@ module _ {o : OwnFlows} {C : Coming} {Is : Numbering → Seat → Now → Type 0
 
 -- ---- a packet is handed over
 
-closed_stays : (h : RdpHead) (tag : Option Tag) (b : PlainBuffer) (time : ℕ) (r : PlainRdp) → r.state ≡ Closed → (handed h tag b time r).state ≡ Closed
+closed_stays : (h : RdpHead) (tag : Option Tag) (b : PlainBuffer) (time : ℕ) (r : PlainRdp) → r.state ≡ Closed → (after_packet h tag b time r).state ≡ Closed
 closed_stays h tag b time r e = ap (λ (s : State). (after (row_in s r h b.picture.payload) h tag b time r).state) e ∙ e
 
 -- its buffer may be handed back, which is told
@@ -81,10 +81,10 @@ module _ {Is : Numbering → Seat → Now → Type 0} {Tight : ℕ → Type 0} {
 module _ {o : OwnFlows} {C : Coming} {Is : Numbering → Seat → Now → Type 0} (kept : IsKept o C Is)
     {m : Numbering} {ordinals : Ordinals} {books : Books} {p : PlainPorts} (seat : Seat) (here : seat.app < p.conns.apps) (there : seat.slot < SLOTS) (g : AreGood Is m ordinals books p) where
   handed_edge : (h : RdpHead) (b : Content) (time : ℕ) → IsReliableOn p seat → C.fed (connection_in (slot_at p.conns seat)) (machine_at p seat) h b.trace.tag b.payload
-      → IsEdge Is m (ordinals seat) seat (machine_at p seat).state (handed h b.trace.tag (anywhere b) time (machine_at p seat)) (view p books seat)
+      → IsEdge Is m (ordinals seat) seat (machine_at p seat).state (after_packet h b.trace.tag (anywhere b) time (machine_at p seat)) (view p books seat)
   handed_edge h b time on fed =
       let x = view p books seat in
-      let r = handed h b.trace.tag (anywhere b) time x.machine in
+      let r = after_packet h b.trace.tag (anywhere b) time x.machine in
       let f = (fine_of g).slots seat here there in
       let is : Is m seat (now_of x) = used Is m seat x.what x.terms (now_of x) on.connection on.there on.reliable f.holds in
       record {
@@ -96,15 +96,15 @@ module _ {o : OwnFlows} {C : Coming} {Is : Numbering → Seat → Now → Type 0
         over = f.over;
         stays = closed_stays h b.trace.tag (anywhere b) time x.machine;
         early = kept.early m seat (now_of x) is;
-        opens = λ k. kept.rests m seat (after_opening (with_other r (now_of x))) (kept.opens m seat (now_of x) h b.trace.tag (anywhere b) time fed k is);
-        rests = λ k. kept.rests m seat (with_other r (now_of x)) (kept.hears m seat (now_of x) h b.trace.tag (anywhere b) time fed k is);
+        opens = λ k. kept.rests m seat (after_opening (with_machine r (now_of x))) (kept.opens m seat (now_of x) h b.trace.tag (anywhere b) time fed k is);
+        rests = λ k. kept.rests m seat (with_machine r (now_of x)) (kept.hears m seat (now_of x) h b.trace.tag (anywhere b) time fed k is);
       }
 
   pub handed_comes : (h : RdpHead) (b : Content) (time : ℕ) → IsReliableOn p seat → C.fed (connection_in (slot_at p.conns seat)) (machine_at p seat) h b.trace.tag b.payload → Comes Is m ordinals books p.conns.apps (handing p seat h b time)
   handed_comes h b time on fed =
       let r = machine_at p seat in
       let row = row_of r h b.payload in
-      let new = handed h b.trace.tag (anywhere b) time r in
+      let new = after_packet h b.trace.tag (anywhere b) time r in
       let step : PlainPorts → Came = went r.state machine_why.Reset seat new in
       let c = where_machine (has_machine p seat) step p in
       let next : PlainPorts → Came =
@@ -165,7 +165,7 @@ module _ {o : OwnFlows} {C : Coming} {Is : Numbering → Seat → Now → Type 0
         stays = λ c. absurd (open_closed (opened ∙ c));
         early = λ s. absurd (open_before (without_delivery x.machine).state opened s);
         opens = λ s. absurd (subst (λ (b : State). Opens b r.state) (sym opened) s);
-        rests = λ _. kept.rests m seat (after_delivering b.picture.payload (with_other r (now_of x))) (kept.delivers m seat (now_of x) b time e k.holds);
+        rests = λ _. kept.rests m seat (after_delivering b.picture.payload (with_machine r (now_of x))) (kept.delivers m seat (now_of x) b time e k.holds);
       }
 
   pub delivered_comes : (time : ℕ) (b : PlainBuffer) → delivery (machine_at p seat) ≡ Some b
@@ -180,4 +180,3 @@ module _ {o : OwnFlows} {C : Coming} {Is : Numbering → Seat → Now → Type 0
       (then_dropped kept (went (without_delivery x.machine).state machine_why.Reset seat (delivering time (without_delivery x.machine)) q) here
       (went_leaves kept h (without_delivery x.machine).state machine_why.Reset (delivering time (without_delivery x.machine)) (λ k. k refl) (delivered_edge time b e)))
       (λ _. tt))
-

@@ -232,4 +232,3 @@ module _ {o : OwnFlows} {C : Coming} {Is : Numbering → Seat → Now → Type 0
       good_of
       (stepped_fine (kept_again seat b.picture (without_packet seat p)) x r (machine_by (keeping_again (anywhere b.picture)) (machine_but (look seat here there h) (without_delivery x.machine))) (taken_state x.machine) (h.slots seat here there) k
       (kept.keeps m seat (now_of x) b (anywhere b.picture) e refl k.holds))
-

@@ -128,4 +128,3 @@ module _ {o : OwnFlows} {C : Coming} {Is : Numbering → Seat → Now → Type 0
 
   pub settled_leaves : Leaves Is All m ordinals books p.conns.apps (come (settled time app p))
   settled_leaves = by_settled (λ q. Leaves Is All m ordinals books p.conns.apps (come q)) time app p (record { same = refl; new = tt; fine = h }) settled_room
-

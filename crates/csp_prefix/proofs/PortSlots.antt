@@ -265,4 +265,3 @@ module _ {Is : Numbering → Seat → Now → Type 0} {Tight : ℕ → Type 0} {
     seen = h.seen;
     others = λ a l t o. subst (λ (n : ℕ). IsFine Is Tight m n a (view p books a)) (sym (ordinal_other seat a k ordinals o)) (h.others a l t o);
   }
-

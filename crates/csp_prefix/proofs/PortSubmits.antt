@@ -101,4 +101,3 @@ module _ {o : OwnFlows} {C : Coming} {Is : Numbering → Seat → Now → Type 0
     sent = λ e. subst Sends (sym e) (refl, admitting_good (has_room (machine_at p seat)) refl e);
     not_sent = λ e. discards (machine_at p seat).state e;
   }
-

@@ -23,7 +23,7 @@ use Rattle.csp_prefix.proofs.PortSlots.{AreFine, IsFine, look, machine_but, whol
 use Rattle.csp_prefix.proofs.PortViews.{now_of, view}
 use Rattle.csp_prefix.specs.Ports.{AreGood, Books, Comes, Ordinals}
 use Rattle.csp_prefix.specs.Slots.{Coming, IsKept, Now, Numbering, Opens}
-use Rattle.csp_prefix.specs.Slots.{with_machine as with_other}
+use Rattle.csp_prefix.specs.Slots.{with_machine}
 
 -- no application
 abbrev Never : ℕ → Type 0
@@ -102,7 +102,7 @@ module _ {o : OwnFlows} {C : Coming} {Is : Numbering → Seat → Now → Type 0
         stays = t.1;
         early = kept.early m seat (now_of x) k.holds;
         opens = λ s. absurd (t.0 s);
-        rests = λ _. kept.rests m seat (with_other (ticked time x.machine) (now_of x)) (kept.ticks m seat (now_of x) time k.holds);
+        rests = λ _. kept.rests m seat (with_machine (ticked time x.machine) (now_of x)) (kept.ticks m seat (now_of x) time k.holds);
       }
 
   timed_leaves : Leaves Is Never m ordinals books p.conns.apps (timed_at time seat p)
@@ -177,4 +177,3 @@ module _ {o : OwnFlows} {C : Coming} {Is : Numbering → Seat → Now → Type 0
         new = k.new;
         good = good_of (looser (λ a l t. subst (λ (n : ℕ). a < n) k.same l) k.fine);
       }
-

@@ -97,4 +97,3 @@ ordinal_other one other k ordinals differ = rw (unlike one other differ) refl
 
 pub count_more : (p : Owed → Bool) (os : List Owed) (o : Owed) (b : Bool) → p o ≡ b → count_by p (os ++ o ∷ []) ≡ count_by p os + cond b 1 0
 count_more p os o b e = rw (sum_by_push (λ (x : Owed). cond (p x) 1 0) os o, e) refl
-

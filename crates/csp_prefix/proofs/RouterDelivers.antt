@@ -122,4 +122,3 @@ delivers_prefix f routes es flows ports receives log hears none app nth x peer i
     let k = receiver_is_aim f es flows ports receives in
     let r = run_known (receiver_aim flows) f routes es k log (λ at mark b q. all_at (IsGenuineItem flows) (gets queue.Inbox es) at (item.Packet mark b) hears q) (each_comes (receiver_aim flows) (λ i. tt) es) (none_stale es none) (found_any f (opening_state f.apps routes) es) in
     opening_known (receiver_aim flows) f es k r app nth x is nth peer is.numbered e
-

@@ -6,7 +6,7 @@ use Rattle.std.proofs.lemmas.Grind.{flat_map-append}
 use Rattle.std.proofs.lemmas.List.{append-nil, append_assoc}
 use Rattle.csp_base.specs.declared.seat.Seat.{Seat}
 use Rattle.csp_log.specs.Moving.{moved_by}
-use Rattle.csp_log.specs.Noting.{noted_by as note_moved}
+use Rattle.csp_log.specs.Noting.{noted_by}
 use Rattle.csp_log.specs.declared.event.Event.{Event}
 use Rattle.csp_log.specs.declared.shown.AnswerShown.{AnswerShown}
 use Rattle.csp_log.specs.declared.shown.OpShown.{OpShown}
@@ -19,7 +19,7 @@ use Rattle.csp_prefix.proofs.RouterBooks.{Past, ends_of, past_after, past_same, 
 
 -- a turn that moves no payload of a connection and frees no slot
 pub record IsQuiet (o : OpShown) (a : AnswerShown) (events : List Event) : Type 0 where
-  pub free : (seat : Seat) → frees way.Sent seat (note_moved o a) ≡ false
+  pub free : (seat : Seat) → frees way.Sent seat (noted_by o a) ≡ false
   pub sent : (seat : Seat) → told_on way.Sent seat.slot events (carried way.Sent seat.app (moved_by o a)) ≡ []
   pub down : (seat : Seat) → delivered_by seat o a ≡ []
 
@@ -52,4 +52,3 @@ split_entry o a es fs h unsent =
     both slot (Some payload) =
         flat_map-append (λ e. if is_on way.Sent slot e then payload ∷ [] else []) es fs
         ∙ ap (λ xs. xs ++ flat_map (λ e. if is_on way.Sent slot e then payload ∷ [] else []) fs) (unsent slot (Some payload))
-

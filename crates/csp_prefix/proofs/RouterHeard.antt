@@ -311,4 +311,3 @@ module _ (g : Aim) (f : Facts) (whole : Past) (k : IsAim g f whole) where
       (by_test_so (is_reliable (header_at b.header).flags.0) (discarded s why.NoSocket (record b { payload = bytes })) h (after_checksum mark b bytes) (λ p. by_service f s time p) (stands_discarded h s why.NoSocket (record b { payload = bytes }) w)
       (let o = answered (header_at b.header).dport bytes (facts_of f s) time in
       by_answer_so o.served o.reply h (with_facts s o.facts) (after_checksum mark b bytes) (answered_mute (header_at b.header).dport bytes time (facts_of f s)) w))))))
-

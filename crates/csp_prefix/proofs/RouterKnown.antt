@@ -128,4 +128,3 @@ known_turns Is f is_aim h s time a fits comes w =
     let told : Told = (turn_of f (at_rest (asked_by f t time (plan_of f t time))) time (plan_of f t time)).told a in
     let later : Past = past_after (asks_at f s time) a told.events h in
     (turn_plan (known_aim Is) f later (is_aim later) t.trash t.out h t time a (λ seat j few low owed. tt) refl w fits comes (hears_any Is (asks_at f s time) a) (part_all later) (each_any {X = Event} (λ e. ⊤) told.events (λ e. tt))).0
-

@@ -121,4 +121,3 @@ make_job time p seat j e = made_job (terms_at p seat).is_down (job_of time (mach
 
 pub deliver_job : (time : ℕ) (p : PlainPorts) (seat : Seat) → task_at time p seat ≡ Some task.Deliver → is_some (delivery (machine_at p seat)) ≡ true
 deliver_job time p seat e = delivery_there time (machine_at p seat) (delivered_job (terms_at p seat).is_down (job_of time (machine_at p seat)) e)
-

@@ -84,4 +84,3 @@ module _ (g : Aim) (f : Facts) (whole : Past) (k : IsAim g f whole) where
       let done = step_stands e h s found.0 run.1 come.0 (part_of es (past_with e h) whole part) w in
       let rest = run_stands es e.time (past_with e h) (told_at f (asked_at f s e.time) e.time e.answer).state run.2 found.1 come.1 part done.0 in
       record { ports = rest.ports; leaves = rest.leaves; stands = rest.stands; pushed = (done.1, rest.pushed) }
-

@@ -202,4 +202,3 @@ pub sends_genuine : (f : Facts) (routes : Routes) (es : List Entry) (flows : Flo
 sends_genuine f routes es flows ports makes opens log shown =
     let k = sender_is_aim f es (IsGenuine flows) ports opens (λ b none tag e. absurd (let bad : ◌≡◌ {A = Option Tag} None (Some tag) = sym none ∙ e in cc)) (makes_genuine f es flows makes shown) in
     (sender_run f routes es (IsGenuine flows) k log).pushed
-

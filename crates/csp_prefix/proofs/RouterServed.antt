@@ -225,4 +225,3 @@ module _ (g : Aim) (f : Facts) (whole : Past) (k : IsAim g f whole) where
   stands_served (item.Packet mark b) h s app time few up untraced comes free empty w = by_mark_so (mark == UNMARKED) h s app mark time b refl few up free empty untraced comes w
   stands_served (item.Note n) h s app time few up untraced comes free empty w = quiet_note h app n (requested f s app time n) (requested_so n h s app time few up free comes w)
   stands_served (item.Frame frame) h s app time few up untraced comes free empty w = absurd up
-

@@ -226,4 +226,3 @@ pub stands_comes : (g : Aim) (f : Facts) (h : Past) (p : PlainPorts) (o : Option
     → Comes g.is m h.ends w.books p.conns.apps c → Stands g f (with_openings c.events h) c.ports o
 stands_comes g f h p o w m c on grows came =
     stands_came g f h p.conns.apps o m w.books c w.apps (tells_grows g.over f.apps w.numbering m h w.books (λ app x down. grows w.numbering m app x down on) on w.tells) w.out came
-

@@ -557,4 +557,3 @@ entry_tells r e step =
     let first = timed_tells (Here (turn_of f t e.time q).asks) (λ reason. tt) e.time r.state.ports in
     let all = AllByRecursion-append (Here (turn_of f t e.time q).asks) (ports_timed e.time r.state.ports).events ((turn_of f (at_rest (asked_by f t e.time q)) e.time q).told e.answer).events first (plan_tells q f t e.time e.answer step.fits) in
     subst (λ o. AllByRecursion (Here o) e.events.items) (sym step.op) (subst (AllByRecursion (Here (asks_at f r.state e.time))) (sym (step.events ∙ events_are f r.state e.time e.answer q refl)) all)
-

@@ -132,4 +132,3 @@ opening_placed g f es r app at x e =
     let there : slice_get (h.opened app) at ≡ Some x = ap (λ xs. slice_get xs at) (past_opened es app) ∙ e in
     let i = all_at _ (h.opened app) at x (w.tells.told app) there in
     (i.app_there, i.slot_there)
-

@@ -11,7 +11,7 @@ use Rattle.csp_buffer.specs.PlainBuffer.{PlainBuffer}
 use Rattle.csp_base.specs.declared.limits.TheConstants.{SLOTS}
 use Rattle.csp_deck.specs.Carried.{IsReply}
 use Rattle.csp_log.specs.Moving.{moved_by}
-use Rattle.csp_log.specs.Noting.{noted_by as note_moved}
+use Rattle.csp_log.specs.Noting.{noted_by}
 use Rattle.csp_log.specs.Pictures.{Fits}
 use Rattle.csp_log.specs.declared.noted.Noted.TheVariants as noted
 use Rattle.csp_log.specs.declared.event.Discard.TheVariants as why
@@ -93,7 +93,7 @@ quiet_take a es = record { free = λ a. refl; sent = λ a. refl; down = λ a. re
 quiet_nothing : (a : AnswerShown) (es : List Event) → IsQuiet op.Nothing a es
 quiet_nothing a es = record { free = λ a. refl; sent = λ a. refl; down = λ a. refl }
 
-free_full : (q : QueueId) (i j : ItemShown) (seat : Seat) → frees way.Sent seat (note_moved (op.Push q i) (answer.Full j)) ≡ false
+free_full : (q : QueueId) (i j : ItemShown) (seat : Seat) → frees way.Sent seat (noted_by (op.Push q i) (answer.Full j)) ≡ false
 free_full q (item.Packet mark b) j seat = refl
 free_full q (item.Frame frame) j seat = refl
 free_full q (item.Note n) j seat = refl
@@ -440,4 +440,3 @@ module _ (g : Aim) (f : Facts) (whole : Past) (k : IsAim g f whole) where
       let same = timed_first h s time a w in
       let done = turn_plan t.trash t.out (with_openings c.events h) t time a so refl (stands_timed h s time w) fits comes hears (subst (λ x. IsPart x whole) (sym same) part) (all_second g.fresh c.events told.events (subst (AllByRecursion g.fresh) (events_are f s time a (plan_of f t time) refl) fresh)) in
       (subst (λ x. Stands g f x told.state.ports told.state.out) same done.0, done.1)
-

@@ -95,4 +95,3 @@ module _ (scene : PlainScene) (r : PlainRecord) (is : IsScene scene) (con : IsCo
         (said_none (entries_of r (who.Router peer.0)) peer.1 (λ other y flow. none other y (record { at = flow.at; there = flow.there }, flow.numbered)))
         (took_said place app nth x peer opened numbered peered));
   }
-
