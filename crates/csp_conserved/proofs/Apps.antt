@@ -12,7 +12,7 @@ use Rattle.csp_app.specs.Slots.{slot_at}
 use Rattle.csp_app.specs.Steps.{answered, batch, first_rule, give_plan, gives_up, has_passed, is_enough, note_plan, packet_plan, plan_of, pushed_one, received, recv_end, recv_plan, step_plan, turn_of, wait_end, waited}
 use Rattle.csp_app.specs.Telling.{at_rest, tells, told_by}
 use Rattle.csp_app.specs.Turn.{giving_op, op_of, popped, pushing_op}
-use Rattle.csp_app.specs.declared.plan.AppPlan.{AppPlan as Plan}
+use Rattle.csp_app.specs.declared.plan.AppPlan.{AppPlan}
 use Rattle.csp_app.specs.declared.plan.AppPlan.TheVariants as plan
 use Rattle.csp_buffer.specs.Content.{Content}
 use Rattle.csp_deck.specs.Step.{answer_numbers, item_numbers, op_numbers, times}
@@ -102,7 +102,7 @@ told_ask number n s now (answer.Full i) free fits k = omega (arith, holds_times 
 told_ask number n s now a free fits k = absurd fits
 
 -- the places that the answers of a plan fill are empty
-abbrev IsFree : PlainApp → Plan → Type 0
+abbrev IsFree : PlainApp → AppPlan → Type 0
 IsFree s plan.Look = s.taken ≡ None
 IsFree s (plan.Ask _) = s.taken ≡ None
 IsFree s plan.Await = s.taken ≡ None
@@ -111,7 +111,7 @@ IsFree s (plan.Receive _ _ _) = s.taken ≡ None
 IsFree s (plan.Wait _) = s.taken ≡ None
 IsFree s _ = ⊤
 
-told_so : (s : PlainApp) (now : ℕ) (p : Plan) (a : AnswerShown) → IsFree s p → Fits (op_of s.number (turn_of s now p)) a → Tells (handed s now p) (told_by (at_rest (handed s now p)) now p a).state a
+told_so : (s : PlainApp) (now : ℕ) (p : AppPlan) (a : AnswerShown) → IsFree s p → Fits (op_of s.number (turn_of s now p)) a → Tells (handed s now p) (told_by (at_rest (handed s now p)) now p a).state a
 told_so s now plan.Return a free fits = told_return s.taken (handed s now plan.Return) now a refl fits
 told_so s now plan.Give a free fits = told_give (slice_get s.held 0) (handed s now plan.Give) now a fits
 told_so s now plan.Push a free fits = told_push s.number s.mark s.made (handed s now plan.Push) now a refl fits
@@ -175,7 +175,7 @@ step_free s (Some (step.Collect slot blobs rounds)) free = recv_free s slot blob
 step_free s (Some (step.Close slot)) free = note_free s s.asked (note.Close slot) free
 step_free s (Some (step.Wait rounds)) free = free
 
-first_free : (s : PlainApp) (taken : Option Content) (refused : Bool) (own : Plan) → s.taken ≡ taken → (s.taken ≡ None → IsFree s own) → IsFree s (first_rule taken refused own)
+first_free : (s : PlainApp) (taken : Option Content) (refused : Bool) (own : AppPlan) → s.taken ≡ taken → (s.taken ≡ None → IsFree s own) → IsFree s (first_rule taken refused own)
 first_free s (Some b) refused own e h = tt
 first_free s None true own e h = e
 first_free s None false own e h = h e
@@ -184,6 +184,6 @@ first_free s None false own e h = h e
 
 pub app_keeps : (s : PlainApp) (now : ℕ) (a : AnswerShown) → Fits (asks s now) a → (k : ℕ) → times k (holds (tells (asked s now) now a)) + times k (op_numbers (asks s now)) ≡ times k (holds s) + times k (answer_numbers a)
 app_keeps s now a fits k =
-    let p : Plan = plan_of s in
+    let p : AppPlan = plan_of s in
     let free = first_free s s.taken s.refused (step_plan s (slice_get s.steps s.done)) refl (step_free s (slice_get s.steps s.done)) in
     omega (arith, told_so s now p a free fits k, handed_law s now p k)

@@ -13,7 +13,7 @@ use Rattle.csp_hub.specs.Asking as hub_asking
 use Rattle.csp_hub.specs.PlainHub as plain_hub
 use Rattle.csp_hub.specs.PlainHub.{PlainHub}
 use Rattle.csp_hub.specs.Planning as hub_planning
-use Rattle.csp_hub.specs.Planning.{HubPlan as Plan, pop, push, wait}
+use Rattle.csp_hub.specs.Planning.{HubPlan, pop, push, wait}
 use Rattle.csp_iface.specs.Asking as iface_asking
 use Rattle.csp_iface.specs.PlainIface.{PlainIface}
 use Rattle.csp_iface.specs.Planning as iface_planning
@@ -103,7 +103,7 @@ link_puts k (e ∷ es) time s run =
     (link_puts k es e.time _ run.2)
 
 -- nor a hub
-hub_put : (k end : ℕ) (p : Plan) (a : AnswerShown) → AllByRecursion IsBare (put_by (queue.Rx k) (hub_asking.op_of end p) a)
+hub_put : (k end : ℕ) (p : HubPlan) (a : AnswerShown) → AllByRecursion IsBare (put_by (queue.Rx k) (hub_asking.op_of end p) a)
 hub_put k end (push place h) answer.Pushed = each_if IsBare (end == k) (item.Frame h.frame) refl
 hub_put k end (push place h) _ = tt
 hub_put k end pop a = tt
@@ -200,7 +200,7 @@ link_keeps way now d = keeps_by way now (first_due now d.held) (nat_le (length d
 
 -- ---- and those of a hub, which holds none either
 
-pub hub_keeps : (n end : ℕ) (p : Plan) (a : AnswerShown) → Fits (hub_asking.op_of end p) a → PopsWithin n (hub_asking.op_of end p) → GoesBare n (hub_asking.op_of end p) a
+pub hub_keeps : (n end : ℕ) (p : HubPlan) (a : AnswerShown) → Fits (hub_asking.op_of end p) a → PopsWithin n (hub_asking.op_of end p) → GoesBare n (hub_asking.op_of end p) a
     → (k : ℕ) → times k (op_numbers (hub_asking.op_of end p)) ≡ times k (answer_numbers a)
 hub_keeps n end (push place h) answer.Pushed fits low bare k = refl
 hub_keeps n end (push place h) (answer.Full i) fits low bare k = ap (λ j. times k (answer_numbers (answer.Full j))) (sym fits)

@@ -1,5 +1,5 @@
 -- A router hands packets to its inbox, its applications and its interfaces alone, and takes them from its inbox and its applications.
-use Rattle.std.proofs.Common.{◌≡◌, ℕ, ◌+◌, ◌-◌, ◌*◌, ◌/◌, ◌%◌, ◌<◌, ◌≤◌, ◌==◌, ⊎_elim, Bool, true, false, cond, nat_le, take, Option, None, Some, List, [], ◌∷◌, map, length, Result, Ok, Err, refl, sym, ap, ◌∙◌, subst, arith, zero, suc}
+use Rattle.std.proofs.Common.{◌≡◌, ℕ, ◌+◌, ◌-◌, ◌*◌, ◌<◌, ◌≤◌, ◌==◌, ⊎_elim, Bool, true, false, cond, nat_le, take, Option, None, Some, List, [], ◌∷◌, map, length, Result, Ok, Err, refl, sym, ap, ◌∙◌, subst, arith, zero, suc}
 use Rattle.std.specs.Prelude.{if◌then◌else◌, ⊤}
 use Rattle.std.specs.FinMap as finite
 use Rattle.std.specs.FinMap.{find}
@@ -11,16 +11,18 @@ use Rattle.std.proofs.Math.Seq.{take-nil}
 use Rattle.std.proofs.lemmas.Bool.{cases_lt, leb-true}
 use Rattle.std.proofs.lemmas.List.Elements.{All-head, All-tail}
 use Rattle.std.proofs.lemmas.List.Quantifiers.{position-Some}
+use Rattle.csp_base.specs.Seat.{seat}
+use Rattle.csp_base.specs.declared.seat.Seat.{Seat}
 use Rattle.csp_buffer.specs.Content.{Content}
 use Rattle.csp_buffer.specs.PlainBuffer.{PlainBuffer}
-use Rattle.csp_conn.specs.Opening.{first_free, found}
-use Rattle.csp_conn.specs.PlainConns.{PlainConns, place_of, slot_at, slots_of}
+use Rattle.csp_conn.specs.Opening.{first_free, found, free_seat}
+use Rattle.csp_conn.specs.PlainConns.{PlainConns, place_of, seat_of, slot_at, slots_of}
 use Rattle.csp_conn.specs.Slots.{is_between, is_free}
 use Rattle.csp_base.specs.declared.limits.TheConstants.{SLOTS}
 use Rattle.csp_conn.specs.declared.slot.Connection.{Connection}
 use Rattle.csp_conn.specs.declared.slot.Slot.{Slot}
 use Rattle.csp_conn.specs.declared.slot.Slot.TheVariants as slot
-use Rattle.csp_conserved.proofs.Shapes.{accepted_shape, answered_shape, bind_shape, close_shape, connect_shape, delivered_shape, handing_shape, invited_shape, shape, submitting_shape, timed_shape}
+use Rattle.csp_conserved.proofs.Shapes.{accepted_shape, answered_shape, bind_shape, close_shape, connect_shape, delivered_shape, either, handing_shape, shape, submitting_shape, timed_shape}
 use Rattle.csp_crc.specs.Check.{payload_of}
 use Rattle.csp_header.specs.Word.{header_at}
 use Rattle.csp_log.specs.declared.event.Discard.{Discard}
@@ -36,7 +38,8 @@ use Rattle.csp_log.specs.declared.shown.ItemShown.TheVariants as item
 use Rattle.csp_log.specs.declared.shown.OpShown.{OpShown}
 use Rattle.csp_log.specs.declared.shown.OpShown.TheVariants as op
 use Rattle.csp_ports.specs.Asking.{is_reliable}
-use Rattle.csp_ports.specs.PlainPorts.{machine_at}
+use Rattle.csp_ports.specs.Packets.{submitting}
+use Rattle.csp_ports.specs.PlainPorts.{machine_at, terms_at}
 use Rattle.csp_ports.specs.Tasks.{making, next_task}
 use Rattle.csp_ports.specs.declared.handing.Invitation.{Invitation}
 use Rattle.csp_ports.specs.declared.owed.Owed.{Owed}
@@ -61,12 +64,12 @@ use Rattle.csp_stack.proofs.Public.{by_rest, heard_here}
 use Rattle.csp_stack.specs.Comes.{heard_at_port, heard_at_socket, heard_elsewhere}
 use Rattle.csp_stack.specs.Counting.{came_in, counting, was_full}
 use Rattle.csp_stack.specs.Readings.{buffer_in, is_checked, is_here, is_pushed, is_secured, item_in}
-use Rattle.csp_stack.specs.Router.{Facts, Leaving, State, origin_of}
+use Rattle.csp_stack.specs.Router.{Facts, Leaving, State, flows_of, router}
 use Rattle.csp_stack.specs.Rules.{◌>>=◌, Arrival, Ruling, Decided, Left, packet_in}
 use Rattle.csp_stack.specs.Rules as rules
 use Rattle.csp_stack.specs.Serving.{facts_of, with_facts}
 use Rattle.csp_stack.specs.Sources.{place_with_work}
-use Rattle.csp_stack.specs.Told.{Told, discarded, leaving, with_ports}
+use Rattle.csp_stack.specs.Told.{Told, discarded, leaving, ported, with_ports}
 use Rattle.csp_stack.specs.Turn as turn
 use Rattle.csp_stack.specs.declared.plan.Plan.{Plan}
 use Rattle.csp_stack.specs.declared.plan.Plan.TheVariants as plan
@@ -100,21 +103,21 @@ route_leads n table addr row all e = longest_leads n (MAX_MASK + 1) table addr r
 
 -- ---- slots are those of applications that are there
 
-found_there : (c : PlainConns) (apps : ℕ) (k : Connection) (at : ℕ × ℕ) → length c.slots ≡ apps * SLOTS → found c k ≡ Some at → at.0 < apps
-found_there c apps k at all e = by (position (is_between k) c.slots) refl e
+found_there : (c : PlainConns) (apps : ℕ) (k : Connection) (s : Seat) → length c.slots ≡ apps * SLOTS → found c k ≡ Some s → s.app < apps
+found_there c apps k s all e = by (position (is_between k) c.slots) refl e
   where
-    by : (o : Option ℕ) → position (is_between k) c.slots ≡ o → option_map (λ place. (place / SLOTS, place % SLOTS)) o ≡ Some at → at.0 < apps
+    by : (o : Option ℕ) → position (is_between k) c.slots ≡ o → option_map seat_of o ≡ Some s → s.app < apps
     by None g h = absurd cc
     by (Some place) g h =
         let low : place < length c.slots = (position-Some (is_between k) c.slots place slot.Free g).0 in
-        let at_is : place / SLOTS ≡ at.0 = cc in
-        subst (λ m. m < apps) at_is (omega (arith, low, all))
+        let same : seat_of place ≡ s = cc in
+        subst (λ (t : Seat). t.app < apps) same (omega (arith, low, all))
 
 free_there : (c : PlainConns) (apps app free : ℕ) → length c.slots ≡ apps * SLOTS → first_free c app ≡ Some free → app < apps
 free_there c apps app free all e = ⊎_elim (λ low. low) (λ high. absurd (none_free (none high))) (cases_lt app apps)
   where
     none : apps ≤ app → slots_of c app ≡ []
-    none high = ap (λ (l : List Slot). take (place_of app 0 + SLOTS - place_of app 0) l) (drop_of_length-le c.slots (omega (arith, all, high))) ∙ take-nil (place_of app 0 + SLOTS - place_of app 0)
+    none high = ap (λ (l : List Slot). take (place_of (seat app 0) + SLOTS - place_of (seat app 0)) l) (drop_of_length-le c.slots (omega (arith, all, high))) ∙ take-nil (place_of (seat app 0) + SLOTS - place_of (seat app 0))
 
     none_free : slots_of c app ≡ [] → ⊥
     none_free is = let it : ◌≡◌ {A = Option ℕ} None (Some free) = sym (ap (position is_free) is) ∙ e in cc
@@ -155,10 +158,6 @@ go_on : (f : Facts) (r : Ruling) (next : Arrival → Told) → GoesBy f r → ((
 go_on f (Left p) next h each = each p
 go_on f (Decided t) next h each = h
 
-go_either : (f : Facts) (b : Bool) (t u : Told) → Goes f t → Goes f u → Goes f (if b then t else u)
-go_either f true t u one other = one
-go_either f false t u one other = other
-
 go_if : (f : Facts) (b : Bool) (t : Told) (p : Arrival) → Goes f t → GoesBy f (if b then Decided t else Left p)
 go_if f true t p h = h
 go_if f false t p h = tt
@@ -169,27 +168,27 @@ go_unless f false t p h = h
 
 go_forwarded : (row : Option Row) (f : Facts) (s : State) (p : Arrival) → ((x : Row) → row ≡ Some x → x.iface < length f.ifaces) → IsHome f s → Goes f (rules.forwarded row s p)
 go_forwarded None f s p leads h = h
-go_forwarded (Some row) f s p leads h = go_either f (row.iface == p.mark) (discarded s why.BackOut p.buffer) (leaving s (rules.by_row row p.buffer)) h (h.0, h.1, leads row refl)
+go_forwarded (Some row) f s p leads h = either (Goes f) (row.iface == p.mark) (discarded s why.BackOut p.buffer) (leaving s (rules.by_row row p.buffer)) h (h.0, h.1, leads row refl)
 
 go_checksum : (checked : Bool) (payload : Option (List ℕ)) (f : Facts) (s : State) (p : Arrival) → IsHome f s → GoesBy f (if checked then rules.with_payload payload s p else Left p)
 go_checksum true None f s p h = h
 go_checksum true (Some payload) f s p h = tt
 go_checksum false payload f s p h = tt
 
-go_machine : (read : Option (List ℕ × RdpHead)) (f : Facts) (s : State) (app slot time : ℕ) (p : Arrival) → IsHome f s → Goes f (rules.to_machine read s app slot time p)
-go_machine None f s app slot time p h = h
-go_machine (Some read) f s app slot time p h = (handing_shape s.ports app slot read.1 (record p.buffer { payload = read.0 }) time ∙ h.0, h.1, h.2)
+go_machine : (read : Option (List ℕ × RdpHead)) (f : Facts) (s : State) (seat : Seat) (time : ℕ) (p : Arrival) → IsHome f s → Goes f (rules.to_machine read s seat time p)
+go_machine None f s seat time p h = h
+go_machine (Some read) f s seat time p h = (handing_shape s.ports seat read.1 (record p.buffer { payload = read.0 }) time ∙ h.0, h.1, h.2)
 
-go_connection : (f : Facts) (s : State) (app slot time : ℕ) (p : Arrival) → app < f.apps → IsHome f s → Goes f (rules.to_connection s app slot time p)
-go_connection f s app slot time p there h =
-    go_either f (is_reliable p.head.flags.0) (rules.to_machine (parted p.buffer.payload) s app slot time p) (leaving s (rules.to_slot app slot p.buffer)) (go_machine (parted p.buffer.payload) f s app slot time p h) (h.0, h.1, there)
+go_connection : (f : Facts) (s : State) (seat : Seat) (time : ℕ) (p : Arrival) → seat.app < f.apps → IsHome f s → Goes f (rules.to_connection s seat time p)
+go_connection f s seat time p there h =
+    either (Goes f) (is_reliable p.head.flags.0) (rules.to_machine (parted p.buffer.payload) s seat time p) (leaving s (rules.to_slot seat p.buffer)) (go_machine (parted p.buffer.payload) f s seat time p h) (h.0, h.1, there)
 
-go_by_connection : (at : Option (ℕ × ℕ)) (f : Facts) (s : State) (time : ℕ) (p : Arrival) → ((x : ℕ × ℕ) → at ≡ Some x → x.0 < f.apps) → IsHome f s → GoesBy f (rules.by_connection at s time p)
+go_by_connection : (found : Option Seat) (f : Facts) (s : State) (time : ℕ) (p : Arrival) → ((seat : Seat) → found ≡ Some seat → seat.app < f.apps) → IsHome f s → GoesBy f (rules.by_connection found s time p)
 go_by_connection None f s time p there h = tt
-go_by_connection (Some at) f s time p there h = go_three (rules.is_mixed s at p) (rules.is_lacking s p) (go_connection f s at.0 at.1 time p (there at refl) h)
+go_by_connection (Some seat) f s time p there h = go_three (rules.is_mixed s seat p) (rules.is_lacking s p) (go_connection f s seat time p (there seat refl) h)
   where
-    go_three : (mixed lacking : Bool) → Goes f (rules.to_connection s at.0 at.1 time p)
-        → Goes f (if mixed then discarded s why.Mixed p.buffer else if lacking then discarded s why.Required p.buffer else rules.to_connection s at.0 at.1 time p)
+    go_three : (mixed lacking : Bool) → Goes f (rules.to_connection s seat time p)
+        → Goes f (if mixed then discarded s why.Mixed p.buffer else if lacking then discarded s why.Required p.buffer else rules.to_connection s seat time p)
     go_three true lacking rest = h
     go_three false true rest = h
     go_three false false rest = rest
@@ -197,26 +196,25 @@ go_by_connection (Some at) f s time p there h = go_three (rules.is_mixed s at p)
 slots_all : (f : Facts) (s : State) → IsHome f s → length s.ports.conns.slots ≡ f.apps * SLOTS
 slots_all f s h = ap (λ (x : ℕ × ℕ). x.1) h.0
 
-go_accepting : (free : Option ℕ) (f : Facts) (s : State) (app : ℕ) (p : Arrival) → first_free s.ports.conns app ≡ free → IsHome f s → Goes f (rules.accepting free s app p)
+go_accepting : (free : Option ℕ) (f : Facts) (s : State) (app : ℕ) (p : Arrival) → first_free s.ports.conns app ≡ free → IsHome f s → Goes f (rules.accepting (option_map (seat app) free) s p)
 go_accepting None f s app p e h = h
 go_accepting (Some free) f s app p e h =
-    (accepted_shape s.ports app free (rules.connection_of p.head) p.head.prio (rules.answer_flags p.head) ∙ h.0, h.1, free_there s.ports.conns f.apps app free (slots_all f s h) e)
+    (accepted_shape s.ports (seat app free) (rules.connection_of p.head) p.head.prio (rules.answer_flags p.head) ∙ h.0, h.1, free_there s.ports.conns f.apps app free (slots_all f s h) e)
 
-go_inviting : (i : Result Invitation Discard) (free : Option ℕ) (f : Facts) (s : State) (app time : ℕ) (p : Arrival) → IsHome f s → Goes f (rules.inviting i free f s app time p)
-go_inviting (Err reason) free f s app time p h = h
-go_inviting (Ok i) None f s app time p h = h
-go_inviting (Ok i) (Some free) f s app time p h =
-    (invited_shape (origin_of f) s.ports app free (rules.connection_of p.head) p.head.prio (rules.answer_flags p.head) i time ∙ h.0, h.1, h.2)
+go_inviting : (i : Result Invitation Discard) (free : Option Seat) (f : Facts) (s : State) (time : ℕ) (p : Arrival) → IsHome f s → Goes f (rules.inviting i free (router f s) time p)
+go_inviting (Err reason) free f s time p h = h
+go_inviting (Ok i) None f s time p h = h
+go_inviting (Ok i) (Some seat) f s time p h = (accepted_shape s.ports seat (rules.connection_of p.head) p.head.prio (rules.answer_flags p.head) ∙ h.0, h.1, h.2)
 
 go_opening : (app : ℕ) (f : Facts) (s : State) (time : ℕ) (p : Arrival) → IsHome f s → Goes f (rules.opening app f s time p)
 go_opening app f s time p h =
-    let free = first_free s.ports.conns app in
+    let free = free_seat s.ports.conns app in
     let i = rules.invitation_of p.buffer in
-    go_either f (is_reliable p.head.flags.0) (rules.inviting i free f s app time p) (rules.accepting free s app p) (go_inviting i free f s app time p h) (go_accepting free f s app p refl h)
+    either (Goes f) (is_reliable p.head.flags.0) (rules.inviting i free (router f s) time p) (rules.accepting free s p) (go_inviting i free f s time p h) (go_accepting (first_free s.ports.conns app) f s app p refl h)
 
 go_by_socket : (owner : Option (ℕ × ℕ)) (f : Facts) (s : State) (time : ℕ) (p : Arrival) → IsHome f s → GoesBy f (rules.by_socket owner f s time p)
 go_by_socket None f s time p h = tt
-go_by_socket (Some owner) f s time p h = go_either f (rules.is_lacking s p) (discarded s why.Required p.buffer) (rules.opening owner.0 f s time p) h (go_opening owner.0 f s time p h)
+go_by_socket (Some owner) f s time p h = either (Goes f) (rules.is_lacking s p) (discarded s why.Required p.buffer) (rules.opening owner.0 f s time p) h (go_opening owner.0 f s time p h)
 
 go_answer : (served : Served) (reply : List ℕ) (f : Facts) (s : State) (p : Arrival) → IsHome f s → Goes f (rules.by_answer served reply f s p)
 go_answer Reply reply f s p h = go_sent f s _ h
@@ -237,31 +235,31 @@ go_heard f s time p h =
     go_on f (rules.not_secured s p) (λ p. by_rest f s time p) (go_if f (is_secured p.head) (discarded (counting s p.mark count.AuthErrors 1) why.Refused p.buffer) p h) (λ p.
     go_on f (rules.without_checksum s p) (λ p. heard_at_port f s time p) (go_checksum (is_checked p.head) (payload_of p.buffer.payload) f s p h) (λ p.
     go_on f (rules.of_no_connection s time p) (λ p. heard_at_socket f s time p)
-    (go_by_connection (rules.slot_of s p) f s time p (λ at e. found_there s.ports.conns f.apps (rules.connection_of p.head) at (slots_all f s h) e) h) (λ p.
+    (go_by_connection (rules.seat_for s p) f s time p (λ seat e. found_there s.ports.conns f.apps (rules.connection_of p.head) seat (slots_all f s h) e) h) (λ p.
     go_on f (rules.to_no_socket f s time p) (λ p. heard_elsewhere f s time p) (go_by_socket (rules.owner_for s p) f s time p h) (λ p.
     go_on f (rules.not_reliable s p) (λ p. rules.by_service f s time p) (go_if f (is_reliable p.head.flags.0) (discarded s why.NoSocket p.buffer) p h) (λ p.
     go_service f s time p h))))))
 
 -- ---- and of an item of an application
 
-go_on_connection : (reliable : Bool) (c : Connection) (f : Facts) (s : State) (app number time : ℕ) (b : Content) → IsHome f s → Goes f (rules.on_connection reliable c f s app number time b)
-go_on_connection false c f s app number time b h = go_sent f s _ h
-go_on_connection true c f s app number time b h = (submitting_shape s.ports app number b time ∙ h.0, h.1, h.2)
+go_on_connection : (c : Connection) (f : Facts) (s : State) (seat : Seat) (time : ℕ) (b : Content) → IsHome f s → Goes f (rules.on_connection c (router f s) seat time b)
+go_on_connection c f s seat time b h =
+    either (Goes f) (is_reliable (terms_at s.ports seat).flags) (ported s (submitting s.ports seat b time)) (rules.sent_on c (router f s) seat b) (submitting_shape s.ports seat b time ∙ h.0, h.1, h.2) (go_sent f s _ h)
 
-go_slot : (x : Slot) (f : Facts) (s : State) (app number time : ℕ) (b : Content) → IsHome f s → Goes f (rules.by_slot x f s app number time b)
-go_slot slot.Free f s app number time b h = h
-go_slot slot.Held f s app number time b h = h
-go_slot (slot.Open c) f s app number time b h = go_on_connection _ c f s app number time b h
+go_slot : (x : Slot) (f : Facts) (s : State) (seat : Seat) (time : ℕ) (b : Content) → IsHome f s → Goes f (rules.by_slot x (router f s) seat time b)
+go_slot slot.Free f s seat time b h = h
+go_slot slot.Held f s seat time b h = h
+go_slot (slot.Open c) f s seat time b h = go_on_connection c f s seat time b h
 
-go_mark : (unmarked : Bool) (f : Facts) (s : State) (app mark time : ℕ) (b : Content) → IsHome f s → Goes f (rules.by_mark unmarked f s app mark time b)
-go_mark true f s app mark time b h = go_sent f s b h
-go_mark false f s app mark time b h = go_slot (slot_at s.ports.conns app mark) f s app mark time b h
+go_mark : (unmarked : Bool) (f : Facts) (s : State) (seat : Seat) (time : ℕ) (b : Content) → IsHome f s → Goes f (rules.by_mark unmarked (router f s) seat time b)
+go_mark true f s seat time b h = go_sent f s b h
+go_mark false f s seat time b h = go_slot (slot_at s.ports.conns seat) f s seat time b h
 
 go_request : (f : Facts) (s : State) (app time : ℕ) (n : Note) → IsHome f s → Goes f (rules.requested f s app time n)
 go_request f s app time (note.Bind port need) h = (bind_shape s.ports app port need ∙ h.0, h.1, h.2)
 go_request f s app time (note.Connect number dest port prio flags from) h =
-    (connect_shape (origin_of f) s.ports app (record { slot = number; dest = dest; port = port; prio = prio; flags = flags; from = from }) time ∙ h.0, h.1, h.2)
-go_request f s app time (note.Close number) h = (close_shape s.ports app number time ∙ h.0, h.1, h.2)
+    (connect_shape (flows_of f) s.ports (record { seat = seat app number; dest = dest; port = port; prio = prio; flags = flags; from = from }) time ∙ h.0, h.1, h.2)
+go_request f s app time (note.Close number) h = (close_shape s.ports (seat app number) time ∙ h.0, h.1, h.2)
 go_request f s app time note.Bound h = h
 go_request f s app time (note.Connected number) h = h
 go_request f s app time (note.Refused reason) h = h
@@ -269,14 +267,14 @@ go_request f s app time (note.Closed number) h = h
 go_request f s app time (note.Down number) h = h
 
 go_served : (f : Facts) (s : State) (time app : ℕ) (i : ItemShown) → IsHome f s → Goes f (rules.served f s time app i)
-go_served f s time app (item.Packet mark b) h = go_mark (mark == UNMARKED) f s app mark time b h
+go_served f s time app (item.Packet mark b) h = go_mark (mark == UNMARKED) f s (seat app mark) time b h
 go_served f s time app (item.Note n) h = go_request f s app time n h
 go_served f s time app (item.Frame x) h = h
 
-go_made : (x : Slot) (j : Job) (f : Facts) (s : State) (app number time : ℕ) (b : Content) → IsHome f s → Goes f (rules.made_on x j f s app number time b)
-go_made slot.Free j f s app number time b h = h
-go_made slot.Held j f s app number time b h = h
-go_made (slot.Open c) j f s app number time b h = go_sent f (with_ports s (making j time app number s.ports)) _ h
+go_made : (x : Slot) (j : Job) (f : Facts) (s : State) (seat : Seat) (time : ℕ) (b : Content) → IsHome f s → Goes f (rules.made_on x (seat, j) (router f s) time b)
+go_made slot.Free j f s seat time b h = h
+go_made slot.Held j f s seat time b h = h
+go_made (slot.Open c) j f s seat time b h = go_sent f (with_ports s (making j time seat s.ports)) _ h
 
 -- ---- so it stays with each answer
 
@@ -298,9 +296,9 @@ go_told (plan.Push q bytes) f s time a h = go_pushed f (is_pushed a) _ _ h (go_b
 go_told plan.Hear f s time a h = go_brought f s _ (packet_in (item_in a)) h (λ p. go_heard f (came_in s p.mark p.buffer) time p h)
 go_told (plan.Serve k) f s time a h = go_brought f s _ (item_in a) h (λ i. go_served f s time k i h)
 go_told (plan.Reply k) f s time a h = go_pushed f (is_pushed a) _ _ (answered_shape s.ports ∙ h.0, h.1, h.2) (go_back f s (packet_in (item_in a)) h)
-go_told (plan.Tell app slot) f s time a h = go_pushed f (is_pushed a) _ _ h (go_back f s (packet_in (item_in a)) h)
-go_told (plan.Deliver app slot) f s time a h = go_pushed f (is_pushed a) _ _ (delivered_shape time app slot s.ports ∙ h.0, h.1, h.2) (go_brought f s _ (packet_in (item_in a)) h (λ p. h))
-go_told (plan.Make app slot j) f s time a h = go_brought f s _ (buffer_in a) h (λ b. go_made (slot_at s.ports.conns app slot) j f s app slot time b h)
+go_told (plan.Tell seat) f s time a h = go_pushed f (is_pushed a) _ _ h (go_back f s (packet_in (item_in a)) h)
+go_told (plan.Deliver seat) f s time a h = go_pushed f (is_pushed a) _ _ (delivered_shape time seat s.ports ∙ h.0, h.1, h.2) (go_brought f s _ (packet_in (item_in a)) h (λ p. h))
+go_told (plan.Make seat j) f s time a h = go_brought f s _ (buffer_in a) h (λ b. go_made (slot_at s.ports.conns seat) j f s seat time b h)
 
 go_until : (f : Facts) (s : State) (time : ℕ) (p : Plan) → IsHome f s → IsHome f (turn.turn_of f s time p).until
 go_until f s time (plan.Push q bytes) h = (h.0, h.1, tt)
@@ -309,9 +307,9 @@ go_until f s time plan.Give h = h
 go_until f s time plan.Hear h = h
 go_until f s time (plan.Serve k) h = h
 go_until f s time (plan.Reply k) h = h
-go_until f s time (plan.Tell app slot) h = h
-go_until f s time (plan.Deliver app slot) h = h
-go_until f s time (plan.Make app slot j) h = h
+go_until f s time (plan.Tell seat) h = h
+go_until f s time (plan.Deliver seat) h = h
+go_until f s time (plan.Make seat j) h = h
 
 timed_home : (f : Facts) (s : State) (time : ℕ) → IsHome f s → IsHome f (turn.timed s time)
 timed_home f s time h = (timed_shape time s.ports ∙ h.0, h.1, h.2)
@@ -330,18 +328,18 @@ AsksIn ifaces apps _ = ⊤
 
 abbrev PlansIn : ℕ → Plan → Type 0
 PlansIn apps (plan.Serve k) = k < apps
-PlansIn apps (plan.Deliver app slot) = app < apps
+PlansIn apps (plan.Deliver s) = s.app < apps
 PlansIn apps _ = ⊤
 
-task_in : (apps app slot : ℕ) (t : Task) → app < apps → PlansIn apps (turn.plan_for app slot t)
-task_in apps app slot task.Tell h = tt
-task_in apps app slot task.Deliver h = h
-task_in apps app slot (task.Make j) h = tt
+task_in : (apps : ℕ) (s : Seat) (t : Task) → s.app < apps → PlansIn apps (turn.plan_for s t)
+task_in apps s task.Tell h = tt
+task_in apps s task.Deliver h = h
+task_in apps s (task.Make j) h = tt
 
-jobs_in : (f : Facts) (s : State) (time : ℕ) (owed : List Owed) (t : Option (ℕ × ℕ × Task)) → next_task time s.ports ≡ t → IsHome f s → PlansIn f.apps (turn.jobs_by owed t)
+jobs_in : (f : Facts) (s : State) (time : ℕ) (owed : List Owed) (t : Option (Seat × Task)) → next_task time s.ports ≡ t → IsHome f s → PlansIn f.apps (turn.jobs_by owed t)
 jobs_in f s time (_ ∷ _) t e h = tt
 jobs_in f s time [] None e h = tt
-jobs_in f s time [] (Some t) e h = task_in f.apps t.0 t.1 t.2 (subst (λ n. t.0 < n) (ap (λ (x : ℕ × ℕ). x.0) h.0) (task_there time s.ports t e).app_there)
+jobs_in f s time [] (Some t) e h = task_in f.apps t.0 t.1 (subst (λ n. t.0.app < n) (ap (λ (x : ℕ × ℕ). x.0) h.0) (task_there time s.ports t e).app_there)
 
 work_in : (f : Facts) (s : State) (time k : ℕ) (first within : Bool) → (k == 0) ≡ first → nat_le k f.apps ≡ within → IsHome f s
     → PlansIn f.apps (turn.work_at s time (cond first source.Inbox (cond within (source.App (k - 1)) source.Jobs)))
@@ -381,13 +379,13 @@ op_in f s time (plan.Reply _) here h = by s.ports.owed
     by : (os : List Owed) → AsksIn (length f.ifaces) f.apps (turn.replying os)
     by [] = tt
     by (_ ∷ _) = tt
-op_in f s time (plan.Tell app slot) here h = tt
-op_in f s time (plan.Deliver app slot) here h = by (delivery (machine_at s.ports app slot))
+op_in f s time (plan.Tell seat) here h = tt
+op_in f s time (plan.Deliver seat) here h = by (delivery (machine_at s.ports seat))
   where
-    by : (b : Option PlainBuffer) → AsksIn (length f.ifaces) f.apps (turn.delivering b app slot)
+    by : (b : Option PlainBuffer) → AsksIn (length f.ifaces) f.apps (turn.delivering b seat)
     by None = tt
     by (Some b) = here
-op_in f s time (plan.Make app slot _) here h = tt
+op_in f s time (plan.Make seat _) here h = tt
 
 pub asks_in : (f : Facts) (s : State) (time : ℕ) → IsHome f s → AsksIn (length f.ifaces) f.apps (turn.asks_at f s time)
 asks_in f s time h = op_in f (turn.timed s time) time (turn.plan_of f (turn.timed s time) time) (plan_in f (turn.timed s time) time (timed_home f s time h)) (timed_home f s time h)

@@ -1,13 +1,14 @@
 -- The steps of a router's ports: none loses a number of a buffer or makes one.
-use Rattle.std.proofs.Common.{◌≡◌, ℕ, ◌+◌, ◌/◌, ◌%◌, ◌<◌, Bool, true, false, nat_lt, Option, None, Some, List, [], ◌∷◌, ◌++◌, map, refl, sym, ap, ◌∙◌, subst, arith}
+use Rattle.std.proofs.Common.{◌≡◌, ℕ, ◌+◌, ◌<◌, Bool, true, false, nat_lt, Option, None, Some, List, [], ◌∷◌, ◌++◌, map, refl, sym, ap, ◌∙◌, subst, arith}
 use Rattle.std.specs.Prelude.{is_some}
 use Rattle.std.specs.List.{All}
 use Rattle.std.specs.Option.{option_map}
 use Rattle.std.proofs.lemmas.Bool.{ltb-false, ltb-true}
 use Rattle.std.proofs.lemmas.List.{get_or_past, length-set}
+use Rattle.csp_base.specs.declared.seat.Seat.{Seat}
 use Rattle.csp_buffer.specs.Content.{Content}
 use Rattle.csp_buffer.specs.PlainBuffer.{PlainBuffer}
-use Rattle.csp_conn.specs.PlainConns.{place_of}
+use Rattle.csp_conn.specs.PlainConns.{place_of, seat_of}
 use Rattle.csp_ports.proofs.Public.{by_dropped, by_settled, flows_none, Flows, flows_machine, flows_then, machine_later, machine_whole, machines_of_terms, whole_at, flows_handed, tally, tally_append, tally_none, tally_same, sent_whole}
 use Rattle.csp_ports.specs.Came.{Came, come, reporting, then}
 use Rattle.csp_ports.specs.Keeps.{AreWhole}
@@ -36,11 +37,11 @@ pub still_whole : (p q : PlainPorts) → q.conns.apps ≡ p.conns.apps → q.slo
 still_whole p q a b c h = record { few = rw a h.few; slots = rw b h.slots; machines = subst (λ (ss : List SlotState). All IsWhole (map machine_in ss)) (sym b) h.machines; places = rw c h.places; waits = rw c h.waits }
 
 -- and other terms of a slot leave them there
-pub terms_whole : (p : PlainPorts) (app slot : ℕ) (t : Terms) → AreWhole p → AreWhole (with_terms p app slot t)
-terms_whole p app slot t h = record {
+pub terms_whole : (p : PlainPorts) (s : Seat) (t : Terms) → AreWhole p → AreWhole (with_terms p s t)
+terms_whole p s t h = record {
   few = h.few;
-  slots = length-set p.slots (place_of app slot) (record (state_at p app slot) { terms = t }) ∙ h.slots;
-  machines = subst (λ (rs : List PlainRdp). All IsWhole rs) (sym (machines_of_terms p app slot t)) h.machines;
+  slots = length-set p.slots (place_of s) (record (state_at p s) { terms = t }) ∙ h.slots;
+  machines = subst (λ (rs : List PlainRdp). All IsWhole rs) (sym (machines_of_terms p s t)) h.machines;
   places = h.places;
   waits = h.waits;
 }
@@ -48,13 +49,13 @@ terms_whole p app slot t h = record {
 -- ---- a packet that is handed to the machine of any slot
 
 -- what comes of it, by what the machine is, where the slot has one
-abbrev handing_to : (has_machine : Bool) → PlainRdp → PlainPorts → ℕ → ℕ → RdpHead → Content → ℕ → Came
-handing_to has r p app slot h b time =
+abbrev handing_to : (has_machine : Bool) → PlainRdp → PlainPorts → Seat → RdpHead → Content → ℕ → Came
+handing_to has r p s h b time =
     reporting (handing_event r b.trace.tag)
     (then (back_by (back_of (row_of r h b.payload) (anywhere b)) (is_stray (row_of r h b.payload)) p) (λ p.
-    then (where_machine has (went r.state machine_why.Reset app slot (after_packet h b.trace.tag (anywhere b) time r)) p) (λ p.
-    then (dropped app p) (λ p.
-    come (settled time app p)))))
+    then (where_machine has (went r.state machine_why.Reset s (after_packet h b.trace.tag (anywhere b) time r)) p) (λ p.
+    then (dropped s.app p) (λ p.
+    come (settled time s.app p)))))
 
 -- an application that is not there has no packet that waits
 none_dropped : (p : PlainPorts) (app : ℕ) → stalled_at p app ≡ None → AreWhole p → Flows 0 p (dropped app p).ports (dropped app p).loose []
@@ -67,37 +68,37 @@ none_handed : (p : PlainPorts) (b : Content) → AreWhole p → Flows 0 p p (b �
 none_handed p b h = let one = flows_none 0 p h in record { counts = λ o. omega arith; far = one.far; whole = h }
 
 -- so it has no use for a packet: that joins the trash
-handed_beyond : (p : PlainPorts) (app slot : ℕ) (h : RdpHead) (b : Content) (time : ℕ) → stalled_at p app ≡ None → AreWhole p
-    → Flows 1 p (handing_to false idle p app slot h b time).ports (handing_to false idle p app slot h b time).loose (b.number ∷ [])
-handed_beyond p app slot h b time waits w =
-    let two = dropped app p in
+handed_beyond : (p : PlainPorts) (seat : Seat) (h : RdpHead) (b : Content) (time : ℕ) → stalled_at p seat.app ≡ None → AreWhole p
+    → Flows 1 p (handing_to false idle p seat h b time).ports (handing_to false idle p seat h b time).loose (b.number ∷ [])
+handed_beyond p seat h b time waits w =
+    let two = dropped seat.app p in
     let first = none_handed p b w in
-    let second = none_dropped p app waits w in
+    let second = none_dropped p seat.app waits w in
     let both = flows_then 0 0 0 p p two.ports (b ∷ []) two.loose (b.number ∷ []) (omega arith) first second in
-    flows_then 0 1 1 p two.ports (settled time app two.ports) ((b ∷ []) ++ two.loose) [] (b.number ∷ []) (omega arith) both (none_settled time two.ports app (by_dropped (λ c. stalled_at c.ports app ≡ None) app p (λ opens. waits) (λ s e shut. absurd (cc (waits, e)))) second.whole)
+    flows_then 0 1 1 p two.ports (settled time seat.app two.ports) ((b ∷ []) ++ two.loose) [] (b.number ∷ []) (omega arith) both (none_settled time two.ports seat.app (by_dropped (λ c. stalled_at c.ports seat.app ≡ None) seat.app p (λ opens. waits) (λ s e shut. absurd (cc (waits, e)))) second.whole)
 
-pub flows_handing : (p : PlainPorts) (app slot : ℕ) (h : RdpHead) (b : Content) (time : ℕ) → slot < 4 → AreWhole p → Flows 1 p (handing p app slot h b time).ports (handing p app slot h b time).loose (b.number ∷ [])
-flows_handing p app slot h b time low w =
-    by (nat_lt app 4) refl
+pub flows_handing : (p : PlainPorts) (seat : Seat) (h : RdpHead) (b : Content) (time : ℕ) → seat.slot < 4 → AreWhole p → Flows 1 p (handing p seat h b time).ports (handing p seat h b time).loose (b.number ∷ [])
+flows_handing p seat h b time low w =
+    by (nat_lt seat.app 4) refl
   where
-    by : (there : Bool) → nat_lt app 4 ≡ there → Flows 1 p (handing p app slot h b time).ports (handing p app slot h b time).loose (b.number ∷ [])
-    by true e = let few = ltb-true app 4 e in flows_handed p app slot h b time few (omega (arith, few, low)) w
+    by : (there : Bool) → nat_lt seat.app 4 ≡ there → Flows 1 p (handing p seat h b time).ports (handing p seat h b time).loose (b.number ∷ [])
+    by true e = let few = ltb-true seat.app 4 e in flows_handed p seat h b time few (omega (arith, few, low)) w
     by false e =
-        let many = ltb-false app 4 e in
-        let past : state_at p app slot ≡ untouched = get_or_past p.slots (place_of app slot) untouched (omega (arith, many, w.slots)) in
-        let waits : stalled_at p app ≡ None = get_or_past p.stalled app None (omega (arith, many, w.places)) in
-        subst (λ (s : SlotState). Flows 1 p (handing_to (is_some s.machine) (machine_in s) p app slot h b time).ports (handing_to (is_some s.machine) (machine_in s) p app slot h b time).loose (b.number ∷ [])) (sym past)
-        (handed_beyond p app slot h b time waits w)
+        let many = ltb-false seat.app 4 e in
+        let past : state_at p seat ≡ untouched = get_or_past p.slots (place_of seat) untouched (omega (arith, many, w.slots)) in
+        let waits : stalled_at p seat.app ≡ None = get_or_past p.stalled seat.app None (omega (arith, many, w.places)) in
+        subst (λ (s : SlotState). Flows 1 p (handing_to (is_some s.machine) (machine_in s) p seat h b time).ports (handing_to (is_some s.machine) (machine_in s) p seat h b time).loose (b.number ∷ [])) (sym past)
+        (handed_beyond p seat h b time waits w)
 
--- the slot whose connection was found is one of an application's
-pub found_low : (o : Option ℕ) (at : ℕ × ℕ) → option_map (λ place. (place / 4, place % 4)) o ≡ Some at → at.1 < 4
-found_low None at e = absurd cc
-found_low (Some place) at e = let same : (place / 4, place % 4) ≡ at = cc in subst (λ (a : ℕ × ℕ). a.1 < 4) same (omega arith)
+-- the seat whose connection was found is one of an application's
+pub found_low : (o : Option ℕ) (s : Seat) → option_map seat_of o ≡ Some s → s.slot < 4
+found_low None s e = absurd cc
+found_low (Some place) s e = let same : seat_of place ≡ s = cc in subst (λ (t : Seat). t.slot < 4) same (omega arith)
 
 -- ---- tasks
 
-pub turned_whole : (p : PlainPorts) (app slot : ℕ) → AreWhole p → AreWhole (turned app slot p)
-turned_whole p app slot h = still_whole p (turned app slot p) refl refl refl h
+pub turned_whole : (p : PlainPorts) (s : Seat) → AreWhole p → AreWhole (turned s p)
+turned_whole p s h = still_whole p (turned s p) refl refl refl h
 
 -- a packet is delivered by an open connection alone
 pub delivers_open : (r : PlainRdp) (b : PlainBuffer) → delivery r ≡ Some b → r.state ≡ Open
@@ -111,21 +112,21 @@ delivers_open r b e = by r.state refl e
     by Closed is e = absurd cc
 
 -- it is taken out
-pub flows_taken : (p : PlainPorts) (app slot : ℕ) (b : PlainBuffer) → place_of app slot < 16 → AreWhole p → delivery (machine_at p app slot) ≡ Some b → Flows 0 p (without_packet app slot p) (b.picture ∷ []) []
-flows_taken p app slot b there h e =
-    let r = machine_at p app slot in
-    let whole = whole_at p app slot h in
-    flows_machine 0 p app slot (without_delivery r) (b.picture ∷ []) [] there h (whole-taken r.state r refl whole) (λ n far. machine_later n (n + 0) (without_delivery r) (omega arith) (far-taken n r.state r far))
+pub flows_taken : (p : PlainPorts) (s : Seat) (b : PlainBuffer) → place_of s < 16 → AreWhole p → delivery (machine_at p s) ≡ Some b → Flows 0 p (without_packet s p) (b.picture ∷ []) []
+flows_taken p s b there h e =
+    let r = machine_at p s in
+    let whole = whole_at p s h in
+    flows_machine 0 p s (without_delivery r) (b.picture ∷ []) [] there h (whole-taken r.state r refl whole) (λ n far. machine_later n (n + 0) (without_delivery r) (omega arith) (far-taken n r.state r far))
     (λ o.
     let even = tally_same o (rdp_numbers (without_delivery r) ++ number_in (delivery r)) (rdp_numbers r) (delivery-balanced r.state r whole) in
     let out = ap (λ (d : Option PlainBuffer). tally o (number_in d)) e in
     omega (arith, tally_none o, even, out, tally_append o (rdp_numbers (without_delivery r)) (number_in (delivery r))))
 
 -- and kept again, where its lane had no room
-pub again_whole : (p : PlainPorts) (app slot : ℕ) (b : Content) → AreWhole p → (machine_at p app slot).state ≡ Open → is_kept (machine_at p app slot).recv ((machine_at p app slot).recv.cur + 1) ≡ false → AreWhole (kept_again app slot b p)
-again_whole p app slot b h opened none =
-    machine_whole p app slot (keeping_again (anywhere b) (machine_at p app slot)) (whole-again (anywhere b) (machine_at p app slot) opened none (whole_at p app slot h)) h
+pub again_whole : (p : PlainPorts) (s : Seat) (b : Content) → AreWhole p → (machine_at p s).state ≡ Open → is_kept (machine_at p s).recv ((machine_at p s).recv.cur + 1) ≡ false → AreWhole (kept_again s b p)
+again_whole p s b h opened none =
+    machine_whole p s (keeping_again (anywhere b) (machine_at p s)) (whole-again (anywhere b) (machine_at p s) opened none (whole_at p s h)) h
 
 -- a packet is made
-pub made_whole : (j : Job) (p : PlainPorts) (time app slot : ℕ) → AreWhole p → AreWhole (making j time app slot p)
-made_whole j p time app slot h = machine_whole p app slot (sent j time (machine_at p app slot)) (sent_whole j time (machine_at p app slot) (whole_at p app slot h)) h
+pub made_whole : (j : Job) (p : PlainPorts) (time : ℕ) (s : Seat) → AreWhole p → AreWhole (making j time s p)
+made_whole j p time s h = machine_whole p s (sent j time (machine_at p s)) (sent_whole j time (machine_at p s) (whole_at p s h)) h

@@ -1,11 +1,13 @@
 -- What a router does with what came: its buffer is held then, and no other goes or comes.
 use Rattle.std.proofs.Common.{◌≡◌, ◌≢◌, ℕ, ◌+◌, ◌<◌, ◌==◌, Bool, true, false, Option, None, Some, Result, Ok, Err, List, [], ◌∷◌, ◌++◌, nat_lt, refl, ap, subst, arith}
-use Rattle.std.specs.Prelude.{if◌then◌else◌}
+use Rattle.std.specs.Prelude.{if◌then◌else◌, is_some}
 use Rattle.std.specs.List.{position}
 use Rattle.std.proofs.lemmas.Bool.{eq-eqb}
+use Rattle.csp_base.specs.Seat.{seat}
 use Rattle.csp_base.specs.Trace.{no_trace}
+use Rattle.csp_base.specs.declared.seat.Seat.{Seat}
 use Rattle.csp_buffer.specs.Content.{Content}
-use Rattle.csp_conn.specs.Opening.{first_free}
+use Rattle.csp_conn.specs.Opening.{free_seat}
 use Rattle.csp_conn.specs.PlainConns.{slot_at, with_slot}
 use Rattle.csp_conn.specs.Slots.{is_between}
 use Rattle.csp_conn.specs.declared.slot.Connection.{Connection}
@@ -26,7 +28,7 @@ use Rattle.csp_log.specs.declared.places.TheConstants.{UNMARKED}
 use Rattle.csp_log.specs.declared.shown.ItemShown.{ItemShown}
 use Rattle.csp_log.specs.declared.shown.ItemShown.TheVariants as item
 use Rattle.csp_ports.proofs.Public.{Flows, flows_connected, flows_ended, flows_invited, flows_submitted, held_terms}
-use Rattle.csp_ports.specs.Asking.{bind_by, close, connect, is_reliable}
+use Rattle.csp_ports.specs.Asking.{bind, close, connect, is_reliable}
 use Rattle.csp_ports.specs.Came.{Came}
 use Rattle.csp_ports.specs.Keeps.{AreWhole}
 use Rattle.csp_ports.specs.Packets.{accepted, handing, invited, submitting}
@@ -50,11 +52,12 @@ use Rattle.csp_stack.proofs.Public.{absorbed_keeps, addressed_number, headed_num
 use Rattle.csp_stack.specs.Comes.{heard_at_socket, heard_elsewhere, heard_at_port}
 use Rattle.csp_stack.specs.Counting.{counting}
 use Rattle.csp_stack.specs.Readings.{is_checked, is_here, is_secured}
-use Rattle.csp_stack.specs.Router.{Facts, Leaving, State, holds, origin_of}
-use Rattle.csp_stack.specs.Rules.{◌>>=◌, Arrival, Decided, Left, accepting, addressed, answer_flags, arrival, by_answer, by_connection, by_mark, by_row, by_service, by_slot, by_socket, connection_of, forwarded, heard, invitation_of, inviting, is_lacking, is_mixed, on_connection, opening, requested, sent, sent_by, served, slot_of, to_connection, to_itself, to_machine, to_slot, with_payload}
+use Rattle.csp_stack.specs.Router.{Facts, Leaving, State, flows_of, holds, router}
+use Rattle.csp_stack.specs.Rules.{◌>>=◌, Arrival, Decided, Left, accepting, addressed, answer_flags, arrival, by_answer, by_connection, by_mark, by_row, by_service, by_slot, by_socket, connection_of, forwarded, heard, invitation_of, inviting, is_lacking, is_mixed, opening, requested, sent, sent_by, sent_on, seat_for, served, to_connection, to_itself, to_machine, to_slot, with_payload}
 use Rattle.csp_stack.specs.Serving.{facts_of, reply_header, reply_in, with_facts}
 use Rattle.csp_stack.specs.Told.{Told, absorbed, discarded, kept, leaving, ported, spent, unchanged, with_ports}
 use Rattle.csp_conserved.proofs.RouterPorts.{flows_handing, found_low, still_whole, terms_whole}
+use Rattle.csp_conserved.proofs.Shapes.{either}
 
 -- a router in the second state holds what it held in the first and these buffers besides, and its ports are whole
 abbrev pub Adds : State → State → List ℕ → Type 0
@@ -149,51 +152,51 @@ module _ (f : Facts) (s : State) (empty : s.out ≡ None) (w : AreWhole s.ports)
   by_checksum_adds false o next rest = rest b.payload
 
   -- a packet of a connection in use
-  to_machine_adds : (o : Option (List ℕ × RdpHead)) (app slot : ℕ) (bytes : List ℕ) → slot < 4 → Holds (to_machine o s app slot time (came_with bytes))
-  to_machine_adds None app slot bytes low = spent_with why.Malformed bytes
-  to_machine_adds (Some read) app slot bytes low =
+  to_machine_adds : (o : Option (List ℕ × RdpHead)) (seat : Seat) (bytes : List ℕ) → seat.slot < 4 → Holds (to_machine o s seat time (came_with bytes))
+  to_machine_adds None seat bytes low = spent_with why.Malformed bytes
+  to_machine_adds (Some read) seat bytes low =
       let packet : Content = record b { payload = read.0 } in
-      adds_ported 1 s (handing s.ports app slot read.1 packet time) (b.number ∷ []) (flows_handing s.ports app slot read.1 packet time low w)
+      adds_ported 1 s (handing s.ports seat read.1 packet time) (b.number ∷ []) (flows_handing s.ports seat read.1 packet time low w)
 
-  to_connection_adds : (reliable : Bool) (app slot : ℕ) (bytes : List ℕ) → slot < 4
-      → Holds (if reliable then to_machine (parted bytes) s app slot time (came_with bytes) else leaving s (to_slot app slot (record b { payload = bytes })))
-  to_connection_adds true app slot bytes low = to_machine_adds (parted bytes) app slot bytes low
-  to_connection_adds false app slot bytes low = adds_leaving s (to_slot app slot (record b { payload = bytes })) empty w
+  to_connection_adds : (reliable : Bool) (seat : Seat) (bytes : List ℕ) → seat.slot < 4
+      → Holds (if reliable then to_machine (parted bytes) s seat time (came_with bytes) else leaving s (to_slot seat (record b { payload = bytes })))
+  to_connection_adds true seat bytes low = to_machine_adds (parted bytes) seat bytes low
+  to_connection_adds false seat bytes low = adds_leaving s (to_slot seat (record b { payload = bytes })) empty w
 
-  at_connection_adds : (mixed lacking : Bool) (at : ℕ × ℕ) (bytes : List ℕ) → at.1 < 4
-      → Holds (if mixed then discarded s why.Mixed (record b { payload = bytes }) else if lacking then discarded s why.Required (record b { payload = bytes }) else to_connection s at.0 at.1 time (came_with bytes))
-  at_connection_adds true lacking at bytes low = spent_with why.Mixed bytes
-  at_connection_adds false true at bytes low = spent_with why.Required bytes
-  at_connection_adds false false at bytes low = to_connection_adds (is_reliable (header_at b.header).flags.0) at.0 at.1 bytes low
+  at_connection_adds : (mixed lacking : Bool) (seat : Seat) (bytes : List ℕ) → seat.slot < 4
+      → Holds (if mixed then discarded s why.Mixed (record b { payload = bytes }) else if lacking then discarded s why.Required (record b { payload = bytes }) else to_connection s seat time (came_with bytes))
+  at_connection_adds true lacking seat bytes low = spent_with why.Mixed bytes
+  at_connection_adds false true seat bytes low = spent_with why.Required bytes
+  at_connection_adds false false seat bytes low = to_connection_adds (is_reliable (header_at b.header).flags.0) seat bytes low
 
-  by_connection_adds : (at : Option (ℕ × ℕ)) (bytes : List ℕ) (next : Arrival → Told) → slot_of s (came_with bytes) ≡ at → Holds (next (came_with bytes)) → Holds (by_connection at s time (came_with bytes) >>= next)
+  by_connection_adds : (found : Option Seat) (bytes : List ℕ) (next : Arrival → Told) → seat_for s (came_with bytes) ≡ found → Holds (next (came_with bytes)) → Holds (by_connection found s time (came_with bytes) >>= next)
   by_connection_adds None bytes next e rest = rest
-  by_connection_adds (Some at) bytes next e rest =
-      at_connection_adds (is_mixed s at (came_with bytes)) (is_lacking s (came_with bytes)) at bytes (found_low (position (is_between (connection_of (header_at b.header))) s.ports.conns.slots) at e)
+  by_connection_adds (Some seat) bytes next e rest =
+      at_connection_adds (is_mixed s seat (came_with bytes)) (is_lacking s (came_with bytes)) seat bytes (found_low (position (is_between (connection_of (header_at b.header))) s.ports.conns.slots) seat e)
 
   -- a packet to a bound port
-  accepting_adds : (slot : Option ℕ) (app : ℕ) (bytes : List ℕ) → Holds (accepting slot s app (came_with bytes))
-  accepting_adds None app bytes = spent_with why.NoSlot bytes
-  accepting_adds (Some slot) app bytes =
+  accepting_adds : (free : Option Seat) (bytes : List ℕ) → Holds (accepting free s (came_with bytes))
+  accepting_adds None bytes = spent_with why.NoSlot bytes
+  accepting_adds (Some seat) bytes =
       let p : Arrival = came_with bytes in
-      let q : PlainPorts = accepted s.ports app slot (connection_of p.head) p.head.prio (answer_flags p.head) in
-      let begins : PlainPorts = record s.ports { conns = with_slot s.ports.conns app slot (has.Open (connection_of p.head)) } in
-      let terms : Terms = record (terms_at s.ports app slot) { prio = p.head.prio; flags = answer_flags p.head; wish = wish.Nothing; is_down = false } in
-      let one = adds_leaving (with_ports s q) (to_slot app slot p.buffer) empty (terms_whole begins app slot terms (still_whole s.ports begins refl refl refl w)) in
-      (λ k. omega (arith, one.0 k, holds_apart k s.trash s.out s.ports, holds_apart k s.trash s.out q, ap (λ (bs : List Content). times k (numbers_of bs)) (held_terms begins app slot terms)), one.1)
+      let q : PlainPorts = accepted s.ports seat (connection_of p.head) p.head.prio (answer_flags p.head) in
+      let begins : PlainPorts = record s.ports { conns = with_slot s.ports.conns seat (has.Open (connection_of p.head)) } in
+      let terms : Terms = record (terms_at s.ports seat) { prio = p.head.prio; flags = answer_flags p.head; wish = wish.Nothing; is_down = false } in
+      let one = adds_leaving (with_ports s q) (to_slot seat p.buffer) empty (terms_whole begins seat terms (still_whole s.ports begins refl refl refl w)) in
+      (λ k. omega (arith, one.0 k, holds_apart k s.trash s.out s.ports, holds_apart k s.trash s.out q, ap (λ (bs : List Content). times k (numbers_of bs)) (held_terms begins seat terms)), one.1)
 
-  inviting_adds : (r : Result Invitation Discard) (slot : Option ℕ) (app : ℕ) (bytes : List ℕ) → Holds (inviting r slot f s app time (came_with bytes))
-  inviting_adds (Err reason) slot app bytes = spent_with reason bytes
-  inviting_adds (Ok i) None app bytes = spent_with why.NoSlot bytes
-  inviting_adds (Ok i) (Some slot) app bytes =
+  inviting_adds : (r : Result Invitation Discard) (free : Option Seat) (bytes : List ℕ) → Holds (inviting r free (router f s) time (came_with bytes))
+  inviting_adds (Err reason) free bytes = spent_with reason bytes
+  inviting_adds (Ok i) None bytes = spent_with why.NoSlot bytes
+  inviting_adds (Ok i) (Some seat) bytes =
       let p : Arrival = came_with bytes in
-      adds_both 1 s (invited (origin_of f) s.ports app slot (connection_of p.head) p.head.prio (answer_flags p.head) i time) p.buffer
-      (flows_invited (origin_of f) s.ports app slot (connection_of p.head) p.head.prio (answer_flags p.head) i time w)
+      adds_both 1 s (invited (flows_of f) i seat time (accepted s.ports seat (connection_of p.head) p.head.prio (answer_flags p.head))) p.buffer
+      (flows_invited (flows_of f) s.ports seat (connection_of p.head) p.head.prio (answer_flags p.head) i time w)
 
   opening_adds : (reliable : Bool) (app : ℕ) (bytes : List ℕ)
-      → Holds (if reliable then inviting (invitation_of (record b { payload = bytes })) (first_free s.ports.conns app) f s app time (came_with bytes) else accepting (first_free s.ports.conns app) s app (came_with bytes))
-  opening_adds true app bytes = inviting_adds (invitation_of (record b { payload = bytes })) (first_free s.ports.conns app) app bytes
-  opening_adds false app bytes = accepting_adds (first_free s.ports.conns app) app bytes
+      → Holds (if reliable then inviting (invitation_of (record b { payload = bytes })) (free_seat s.ports.conns app) (router f s) time (came_with bytes) else accepting (free_seat s.ports.conns app) s (came_with bytes))
+  opening_adds true app bytes = inviting_adds (invitation_of (record b { payload = bytes })) (free_seat s.ports.conns app) bytes
+  opening_adds false app bytes = accepting_adds (free_seat s.ports.conns app) bytes
 
   at_socket_adds : (lacking : Bool) (app : ℕ) (bytes : List ℕ) → Holds (if lacking then discarded s why.Required (record b { payload = bytes }) else opening app f s time (came_with bytes))
   at_socket_adds true app bytes = spent_with why.Required bytes
@@ -218,7 +221,7 @@ module _ (f : Facts) (s : State) (empty : s.out ≡ None) (w : AreWhole s.ports)
       for_node_adds (is_here f.addr (header_at b.header)) (forwarded (route_of s.routes (header_at b.header).dst) s (arrival mark b)) (arrival mark b) (λ p. heard_here f s time p) (forwarded_adds (route_of s.routes (header_at b.header).dst))
       (by_test_adds (is_secured (header_at b.header)) (discarded (counting s mark count.AuthErrors 1) why.Refused b) (arrival mark b) (λ p. by_rest f s time p) (adds_discarded (counting s mark count.AuthErrors 1) why.Refused b w)
       (by_checksum_adds (is_checked (header_at b.header)) (payload_of b.payload) (λ q. heard_at_port f s time q) (λ bytes.
-      by_connection_adds (slot_of s (came_with bytes)) bytes (λ p. heard_at_socket f s time p) refl
+      by_connection_adds (seat_for s (came_with bytes)) bytes (λ p. heard_at_socket f s time p) refl
       (by_socket_adds (owner_of s.ports.bound (header_at b.header).dport) bytes (λ p. heard_elsewhere f s time p)
       (by_test_adds (is_reliable (header_at b.header).flags.0) (discarded s why.NoSocket (record b { payload = bytes })) (came_with bytes) (λ p. by_service f s time p) (spent_with why.NoSocket bytes)
       (let o = answered (header_at b.header).dport bytes (facts_of f s) time in
@@ -226,37 +229,39 @@ module _ (f : Facts) (s : State) (empty : s.out ≡ None) (w : AreWhole s.ports)
 
 -- ---- from an application
 
-on_connection_adds : (reliable : Bool) (c : Connection) (f : Facts) (s : State) (app slot time : ℕ) (b : Content) → app < 4 → slot < 4 → stalled_at s.ports app ≡ None → s.out ≡ None → AreWhole s.ports
-    → Adds s (on_connection reliable c f s app slot time b).state (b.number ∷ [])
-on_connection_adds false c f s app slot time b few low free empty w = sent_adds f s (addressed f c (terms_at s.ports app slot) b) b.number (addressed_number f c (terms_at s.ports app slot) b) empty w
-on_connection_adds true c f s app slot time b few low free empty w =
-    adds_ported 1 s (submitting s.ports app slot b time) (b.number ∷ []) (flows_submitted (machine_at s.ports app slot).state s.ports app slot b time few low w free)
+on_connection_adds : (reliable : Bool) (c : Connection) (f : Facts) (s : State) (seat : Seat) (time : ℕ) (b : Content) → seat.app < 4 → seat.slot < 4 → stalled_at s.ports seat.app ≡ None → s.out ≡ None → AreWhole s.ports
+    → Adds s (if reliable then ported s (submitting s.ports seat b time) else sent_on c (router f s) seat b).state (b.number ∷ [])
+on_connection_adds false c f s seat time b few low free empty w = sent_adds f s (addressed f c (terms_at s.ports seat) b) b.number (addressed_number f c (terms_at s.ports seat) b) empty w
+on_connection_adds true c f s seat time b few low free empty w =
+    adds_ported 1 s (submitting s.ports seat b time) (b.number ∷ []) (flows_submitted (machine_at s.ports seat).state s.ports seat b time few low w free)
 
-by_slot_adds : (o : Slot) (f : Facts) (s : State) (app slot time : ℕ) (b : Content) → app < 4 → slot < 4 → stalled_at s.ports app ≡ None → s.out ≡ None → AreWhole s.ports → Adds s (by_slot o f s app slot time b).state (b.number ∷ [])
-by_slot_adds has.Free f s app slot time b few low free empty w = adds_discarded s why.NoConn b w
-by_slot_adds has.Held f s app slot time b few low free empty w = adds_discarded s why.NoConn b w
-by_slot_adds (has.Open c) f s app slot time b few low free empty w = on_connection_adds (is_reliable (terms_at s.ports app slot).flags) c f s app slot time b few low free empty w
+by_slot_adds : (o : Slot) (f : Facts) (s : State) (seat : Seat) (time : ℕ) (b : Content) → seat.app < 4 → seat.slot < 4 → stalled_at s.ports seat.app ≡ None → s.out ≡ None → AreWhole s.ports → Adds s (by_slot o (router f s) seat time b).state (b.number ∷ [])
+by_slot_adds has.Free f s seat time b few low free empty w = adds_discarded s why.NoConn b w
+by_slot_adds has.Held f s seat time b few low free empty w = adds_discarded s why.NoConn b w
+by_slot_adds (has.Open c) f s seat time b few low free empty w = on_connection_adds (is_reliable (terms_at s.ports seat).flags) c f s seat time b few low free empty w
 
-by_mark_adds : (unmarked : Bool) (f : Facts) (s : State) (app mark time : ℕ) (b : Content) → (mark == UNMARKED) ≡ unmarked → app < 4 → IsUpItem (item.Packet mark b) → stalled_at s.ports app ≡ None → s.out ≡ None → AreWhole s.ports
-    → Adds s (by_mark unmarked f s app mark time b).state (b.number ∷ [])
-by_mark_adds true f s app mark time b e few up free empty w = sent_adds f s b b.number refl empty w
-by_mark_adds false f s app mark time b e few up free empty w =
-    let marked : mark ≢ UNMARKED = λ is. absurd (let same : (mark == UNMARKED) ≡ true = eq-eqb mark UNMARKED is in cc) in
-    by_slot_adds (slot_at s.ports.conns app mark) f s app mark time b few (up marked).0 free empty w
+by_mark_adds : (unmarked : Bool) (f : Facts) (s : State) (seat : Seat) (time : ℕ) (b : Content) → (seat.slot == UNMARKED) ≡ unmarked → seat.app < 4 → IsUpItem (item.Packet seat.slot b) → stalled_at s.ports seat.app ≡ None → s.out ≡ None → AreWhole s.ports
+    → Adds s (by_mark unmarked (router f s) seat time b).state (b.number ∷ [])
+by_mark_adds true f s seat time b e few up free empty w = sent_adds f s b b.number refl empty w
+by_mark_adds false f s seat time b e few up free empty w =
+    let marked : seat.slot ≢ UNMARKED = λ is. absurd (let same : (seat.slot == UNMARKED) ≡ true = eq-eqb seat.slot UNMARKED is in cc) in
+    by_slot_adds (slot_at s.ports.conns seat) f s seat time b few (up marked).0 free empty w
 
 -- a port that is asked for: no buffer is there
-bind_adds : (can : Bool) (owner : Option (ℕ × ℕ)) (s : State) (app port need : ℕ) → AreWhole s.ports → Adds s (with_ports s (bind_by can owner s.ports app port need)) []
-bind_adds false owner s app port need w = (λ k. omega arith, still_whole s.ports (bind_by false owner s.ports app port need) refl refl refl w)
-bind_adds true (Some owner) s app port need w = (λ k. omega arith, still_whole s.ports (bind_by true (Some owner) s.ports app port need) refl refl refl w)
-bind_adds true None s app port need w = (λ k. omega arith, still_whole s.ports (bind_by true None s.ports app port need) refl refl refl w)
+bind_adds : (s : State) (app port need : ℕ) → AreWhole s.ports → Adds s (with_ports s (bind s.ports app port need)) []
+bind_adds s app port need w =
+    let so : PlainPorts → Type 0 = λ q. Adds s (with_ports s q) [] in
+    either so (nat_lt port BINDABLE_PORTS) _ _ (either so (is_some (owner_of s.ports.bound port)) _ _ (λ k. omega arith, still_whole s.ports _ refl refl refl w) (λ k. omega arith, still_whole s.ports _ refl refl refl w))
+    (λ k. omega arith, still_whole s.ports _ refl refl refl w)
 
 requested_adds : (n : Note) (f : Facts) (s : State) (app time : ℕ) → app < 4 → IsUpItem (item.Note n) → AreWhole s.ports → Adds s (requested f s app time n).state []
-requested_adds (note.Bind port need) f s app time few up w = bind_adds (nat_lt port BINDABLE_PORTS) (owner_of s.ports.bound port) s app port need w
+requested_adds (note.Bind port need) f s app time few up w = bind_adds s app port need w
 requested_adds (note.Connect slot dest port prio flags from) f s app time few up w =
-    let r : Request = record { slot = slot; dest = dest; port = port; prio = prio; flags = flags; from = from } in
-    adds_ported 1 s (connect (origin_of f) s.ports app r time) [] (flows_connected (origin_of f) s.ports app r time w)
+    let r : Request = record { seat = seat app slot; dest = dest; port = port; prio = prio; flags = flags; from = from } in
+    adds_ported 1 s (connect (flows_of f) s.ports r time) [] (flows_connected (flows_of f) s.ports r time w)
 requested_adds (note.Close slot) f s app time few up w =
-    adds_ported 0 s (close s.ports app slot time) [] (flows_ended (is_closing (terms_at s.ports app slot).wish) s.ports app slot time (omega (arith, few, up)) w)
+    let at : Seat = seat app slot in
+    adds_ported 0 s (close s.ports at time) [] (flows_ended (is_closing (terms_at s.ports at).wish) s.ports at time (omega (arith, few, up)) w)
 requested_adds note.Bound f s app time few up w = adds_none s w
 requested_adds (note.Connected slot) f s app time few up w = adds_none s w
 requested_adds (note.Refused reason) f s app time few up w = adds_none s w
@@ -264,6 +269,6 @@ requested_adds (note.Closed slot) f s app time few up w = adds_none s w
 requested_adds (note.Down slot) f s app time few up w = adds_none s w
 
 pub served_adds : (i : ItemShown) (f : Facts) (s : State) (app time : ℕ) → app < 4 → IsUpItem i → stalled_at s.ports app ≡ None → s.out ≡ None → AreWhole s.ports → Adds s (served f s time app i).state (item_numbers i)
-served_adds (item.Packet mark b) f s app time few up free empty w = by_mark_adds (mark == UNMARKED) f s app mark time b refl few up free empty w
+served_adds (item.Packet mark b) f s app time few up free empty w = by_mark_adds (mark == UNMARKED) f s (seat app mark) time b refl few up free empty w
 served_adds (item.Note n) f s app time few up free empty w = requested_adds n f s app time few up w
 served_adds (item.Frame frame) f s app time few up free empty w = absurd up

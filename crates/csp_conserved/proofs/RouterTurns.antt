@@ -2,6 +2,7 @@
 use Rattle.std.proofs.Common.{◌≡◌, ◌≢◌, ℕ, ◌+◌, ◌-◌, ◌<◌, ◌≤◌, ◌==◌, Bool, true, false, cond, nat_le, Option, None, Some, List, [], ◌∷◌, drop, length, refl, ap, arith}
 use Rattle.std.specs.Prelude.{is_some}
 use Rattle.std.proofs.lemmas.Bool.{eqb-false, leb-true}
+use Rattle.csp_base.specs.declared.seat.Seat.{Seat}
 use Rattle.csp_buffer.specs.Content.{Content}
 use Rattle.csp_buffer.specs.PlainBuffer.{PlainBuffer}
 use Rattle.csp_conn.specs.PlainConns.{place_of, slot_at}
@@ -38,7 +39,7 @@ use Rattle.csp_rdp_window.specs.Receiving.{is_kept}
 use Rattle.csp_stack.proofs.Public.{addressed_number, holds_apart, times_both}
 use Rattle.csp_stack.specs.Counting.{came_in, was_full, went_out}
 use Rattle.csp_stack.specs.Party.{asked_of, asks_of, told_of}
-use Rattle.csp_stack.specs.Router.{Facts, Leaving, Router, State, at_rest, holds, out_buffers}
+use Rattle.csp_stack.specs.Router.{Facts, Leaving, Router, State, at_rest, holds, out_buffers, router}
 use Rattle.csp_stack.specs.Rules.{addressed, made_on, packet_in}
 use Rattle.csp_stack.specs.Sources.{circle, has_work, place_with_work, source_at}
 use Rattle.csp_stack.specs.Told.{kept, ported, unchanged, with_ports}
@@ -147,90 +148,90 @@ module _ (f : Facts) (few : f.apps ≤ MAX_APPS) where
       moves_by s h (after_told s time (plan.Reply app) a) (op_numbers (replying s.ports.owed)) (answer_numbers a) (λ k. omega (arith, ap (times k) (replying_none s.ports.owed))) (replying_told s.ports.owed h a w fits)
 
   -- ---- a Down note
-  turn_tell : (app slot : ℕ) (s : State) (time : ℕ) (a : AnswerShown) → AreWhole s.ports → TurnsBy s time (plan.Tell app slot) a
-  turn_tell app slot s time answer.Pushed w fits comes =
-      let q : PlainPorts = turned app slot s.ports in
-      let terms : Terms = record (terms_at q app slot) { is_down = false } in (
-        λ k. omega (arith, holds_apart k s.trash s.out s.ports, holds_apart k s.trash s.out (told_down app slot q), ap (λ (bs : List Content). times k (numbers_of bs)) (held_terms q app slot terms)),
-        terms_whole q app slot terms (turned_whole s.ports app slot w),
+  turn_tell : (seat : Seat) (s : State) (time : ℕ) (a : AnswerShown) → AreWhole s.ports → TurnsBy s time (plan.Tell seat) a
+  turn_tell seat s time answer.Pushed w fits comes =
+      let q : PlainPorts = turned seat s.ports in
+      let terms : Terms = record (terms_at q seat) { is_down = false } in (
+        λ k. omega (arith, holds_apart k s.trash s.out s.ports, holds_apart k s.trash s.out (told_down seat q), ap (λ (bs : List Content). times k (numbers_of bs)) (held_terms q seat terms)),
+        terms_whole q seat terms (turned_whole s.ports seat w),
       )
-  turn_tell app slot s time (answer.Full i) w fits comes =
-      let h : State = at_rest (asked_by f s time (plan.Tell app slot)) in
-      moves_by s h (after_told s time (plan.Tell app slot) (answer.Full i)) [] (item_numbers i) (λ k. omega arith) (back_adds i h (turned_whole s.ports app slot w))
-  turn_tell app slot s time a w fits comes = absurd fits
+  turn_tell seat s time (answer.Full i) w fits comes =
+      let h : State = at_rest (asked_by f s time (plan.Tell seat)) in
+      moves_by s h (after_told s time (plan.Tell seat) (answer.Full i)) [] (item_numbers i) (λ k. omega arith) (back_adds i h (turned_whole s.ports seat w))
+  turn_tell seat s time a w fits comes = absurd fits
 
   -- ---- a packet that is delivered
-  taken_first : (app slot : ℕ) (b : PlainBuffer) (s : State) (time : ℕ) → place_of app slot < 16 → delivery (machine_at s.ports app slot) ≡ Some b → AreWhole s.ports
-      → (k : ℕ) → times k (holds (at_rest (asked_by f s time (plan.Deliver app slot)))) + times k (b.picture.number ∷ []) ≡ times k (holds s)
-  taken_first app slot b s time there e w k =
-      let q : PlainPorts = turned app slot s.ports in
-      let flows = flows_taken q app slot b there (turned_whole s.ports app slot w) e in
-      omega (arith, holds_apart k s.trash s.out s.ports, holds_apart k s.trash s.out (without_packet app slot q), flows.counts (Some k))
+  taken_first : (seat : Seat) (b : PlainBuffer) (s : State) (time : ℕ) → place_of seat < 16 → delivery (machine_at s.ports seat) ≡ Some b → AreWhole s.ports
+      → (k : ℕ) → times k (holds (at_rest (asked_by f s time (plan.Deliver seat)))) + times k (b.picture.number ∷ []) ≡ times k (holds s)
+  taken_first seat b s time there e w k =
+      let q : PlainPorts = turned seat s.ports in
+      let flows = flows_taken q seat b there (turned_whole s.ports seat w) e in
+      omega (arith, holds_apart k s.trash s.out s.ports, holds_apart k s.trash s.out (without_packet seat q), flows.counts (Some k))
 
-  again_adds : (app slot : ℕ) (b : Content) (h : State) → place_of app slot < 16 → (machine_at h.ports app slot).state ≡ state.Open → is_kept (machine_at h.ports app slot).recv ((machine_at h.ports app slot).recv.cur + 1) ≡ false → AreWhole h.ports
-      → Adds h (with_ports h (kept_again app slot b h.ports)) (b.number ∷ [])
-  again_adds app slot b h there opened none w =
-      let keeps = keeps_again h.ports app slot b there w opened none in (
-        λ k. omega (arith, holds_apart k h.trash h.out h.ports, holds_apart k h.trash h.out (kept_again app slot b h.ports), keeps.numbers k),
-        again_whole h.ports app slot b w opened none,
+  again_adds : (s : Seat) (b : Content) (h : State) → place_of s < 16 → (machine_at h.ports s).state ≡ state.Open → is_kept (machine_at h.ports s).recv ((machine_at h.ports s).recv.cur + 1) ≡ false → AreWhole h.ports
+      → Adds h (with_ports h (kept_again s b h.ports)) (b.number ∷ [])
+  again_adds s b h there opened none w =
+      let keeps = keeps_again h.ports s b there w opened none in (
+        λ k. omega (arith, holds_apart k h.trash h.out h.ports, holds_apart k h.trash h.out (kept_again s b h.ports), keeps.numbers k),
+        again_whole h.ports s b w opened none,
       )
 
   -- the packet that came back is the one that was to be delivered
-  keeping_adds : (app slot : ℕ) (i : ItemShown) (b : Content) (h : State) → i ≡ item.Packet slot b → place_of app slot < 16 → (machine_at h.ports app slot).state ≡ state.Open → is_kept (machine_at h.ports app slot).recv ((machine_at h.ports app slot).recv.cur + 1) ≡ false → AreWhole h.ports
-      → Adds h (kept_back h app slot (packet_in (Some i))).state (item_numbers i)
-  keeping_adds app slot (item.Packet mark c) b h e there opened none w = again_adds app slot c h there opened none w
-  keeping_adds app slot (item.Frame frame) b h e there opened none w = absurd cc
-  keeping_adds app slot (item.Note n) b h e there opened none w = absurd cc
+  keeping_adds : (s : Seat) (i : ItemShown) (b : Content) (h : State) → i ≡ item.Packet s.slot b → place_of s < 16 → (machine_at h.ports s).state ≡ state.Open → is_kept (machine_at h.ports s).recv ((machine_at h.ports s).recv.cur + 1) ≡ false → AreWhole h.ports
+      → Adds h (kept_back h s (packet_in (Some i))).state (item_numbers i)
+  keeping_adds s (item.Packet mark c) b h e there opened none w = again_adds s c h there opened none w
+  keeping_adds s (item.Frame frame) b h e there opened none w = absurd cc
+  keeping_adds s (item.Note n) b h e there opened none w = absurd cc
 
-  delivering_told : (app slot time : ℕ) (b : Content) (h : State) (a : AnswerShown) → app < 4 → place_of app slot < 16 → (machine_at h.ports app slot).state ≡ state.Open → is_kept (machine_at h.ports app slot).recv ((machine_at h.ports app slot).recv.cur + 1) ≡ false → AreWhole h.ports
-      → Fits (op.Push (queue.Down app) (item.Packet slot b)) a → Adds h (cond (is_pushed a) (ported h (delivered time app slot h.ports)) (kept_back h app slot (packet_in (item_in a)))).state (answer_numbers a)
-  delivering_told app slot time b h answer.Pushed low there opened none w fits = adds_ported 1 h (delivered time app slot h.ports) [] (flows_delivered h.ports time app slot low there w opened none)
-  delivering_told app slot time b h (answer.Full i) low there opened none w fits = keeping_adds app slot i b h fits there opened none w
-  delivering_told app slot time b h a low there opened none w fits = absurd fits
+  delivering_told : (s : Seat) (time : ℕ) (b : Content) (h : State) (a : AnswerShown) → s.app < 4 → place_of s < 16 → (machine_at h.ports s).state ≡ state.Open → is_kept (machine_at h.ports s).recv ((machine_at h.ports s).recv.cur + 1) ≡ false → AreWhole h.ports
+      → Fits (op.Push (queue.Down s.app) (item.Packet s.slot b)) a → Adds h (cond (is_pushed a) (ported h (delivered time s h.ports)) (kept_back h s (packet_in (item_in a)))).state (answer_numbers a)
+  delivering_told s time b h answer.Pushed low there opened none w fits = adds_ported 1 h (delivered time s h.ports) [] (flows_delivered h.ports time s low there w opened none)
+  delivering_told s time b h (answer.Full i) low there opened none w fits = keeping_adds s i b h fits there opened none w
+  delivering_told s time b h a low there opened none w fits = absurd fits
 
-  turn_deliver : (o : Option PlainBuffer) (app slot : ℕ) (s : State) (time : ℕ) (a : AnswerShown) → app < 4 → slot < 4 → delivery (machine_at s.ports app slot) ≡ o → is_some o ≡ true → AreWhole s.ports
-      → Fits (delivering o app slot) a → Moves s (after_told s time (plan.Deliver app slot) a) (op_numbers (delivering o app slot)) (answer_numbers a)
-  turn_deliver None app slot s time a low least e some w fits = absurd cc
-  turn_deliver (Some b) app slot s time a low least e some w fits =
-      let there : place_of app slot < 16 = omega (arith, low, least) in
-      let q : PlainPorts = turned app slot s.ports in
-      let whole = turned_whole s.ports app slot w in
-      let opened : (machine_at q app slot).state ≡ state.Open = delivers_open (machine_at s.ports app slot) b e in
-      let taken = now_taken q app slot there whole opened in
-      let flows = flows_taken q app slot b there whole e in
-      let h : State = at_rest (asked_by f s time (plan.Deliver app slot)) in
-      moves_by s h (after_told s time (plan.Deliver app slot) a) (b.picture.number ∷ []) (answer_numbers a) (taken_first app slot b s time there e w)
-      (delivering_told app slot time b.picture h a low there taken.0 taken.1 flows.whole fits)
+  turn_deliver : (o : Option PlainBuffer) (seat : Seat) (s : State) (time : ℕ) (a : AnswerShown) → seat.app < 4 → seat.slot < 4 → delivery (machine_at s.ports seat) ≡ o → is_some o ≡ true → AreWhole s.ports
+      → Fits (delivering o seat) a → Moves s (after_told s time (plan.Deliver seat) a) (op_numbers (delivering o seat)) (answer_numbers a)
+  turn_deliver None seat s time a low least e some w fits = absurd cc
+  turn_deliver (Some b) seat s time a low least e some w fits =
+      let there : place_of seat < 16 = omega (arith, low, least) in
+      let q : PlainPorts = turned seat s.ports in
+      let whole = turned_whole s.ports seat w in
+      let opened : (machine_at q seat).state ≡ state.Open = delivers_open (machine_at s.ports seat) b e in
+      let taken = now_taken q seat there whole opened in
+      let flows = flows_taken q seat b there whole e in
+      let h : State = at_rest (asked_by f s time (plan.Deliver seat)) in
+      moves_by s h (after_told s time (plan.Deliver seat) a) (b.picture.number ∷ []) (answer_numbers a) (taken_first seat b s time there e w)
+      (delivering_told seat time b.picture h a low there taken.0 taken.1 flows.whole fits)
 
   -- ---- a packet that is made
-  made_adds : (o : Slot) (app slot : ℕ) (j : Job) (time : ℕ) (b : Content) (h : State) → place_of app slot < 16 → h.out ≡ None → AreWhole h.ports → Adds h (made_on o j f h app slot time b).state (b.number ∷ [])
-  made_adds has.Free app slot j time b h there empty w = adds_absorbed h b w
-  made_adds has.Held app slot j time b h there empty w = adds_absorbed h b w
-  made_adds (has.Open c) app slot j time b h there empty w =
-      let q : PlainPorts = making j time app slot h.ports in
-      let x : Content = addressed f c (terms_at h.ports app slot) (made_in j time app slot b h.ports) in
-      let keeps = keeps_made j h.ports time app slot there w in
-      let goes = sent_adds f (with_ports h q) x b.number (addressed_number f c (terms_at h.ports app slot) (made_in j time app slot b h.ports)) empty (made_whole j h.ports time app slot w) in
+  made_adds : (o : Slot) (s : Seat) (j : Job) (time : ℕ) (b : Content) (h : State) → place_of s < 16 → h.out ≡ None → AreWhole h.ports → Adds h (made_on o (s, j) (router f h) time b).state (b.number ∷ [])
+  made_adds has.Free s j time b h there empty w = adds_absorbed h b w
+  made_adds has.Held s j time b h there empty w = adds_absorbed h b w
+  made_adds (has.Open c) s j time b h there empty w =
+      let q : PlainPorts = making j time s h.ports in
+      let x : Content = addressed f c (terms_at h.ports s) (made_in j time s b h.ports) in
+      let keeps = keeps_made j h.ports time s there w in
+      let goes = sent_adds f (with_ports h q) x b.number (addressed_number f c (terms_at h.ports s) (made_in j time s b h.ports)) empty (made_whole j h.ports time s w) in
       (λ k. omega (arith, holds_apart k h.trash h.out h.ports, holds_apart k h.trash h.out q, keeps.numbers k, goes.0 k), goes.1)
 
-  turn_make : (app slot : ℕ) (j : Job) (s : State) (time : ℕ) (a : AnswerShown) → app < 4 → slot < 4 → s.out ≡ None → AreWhole s.ports → TurnsBy s time (plan.Make app slot j) a
-  turn_make app slot j s time (answer.Taken b) low least empty w fits comes =
-      let h : State = at_rest (asked_by f s time (plan.Make app slot j)) in
-      moves_by s h (after_told s time (plan.Make app slot j) (answer.Taken b)) [] (b.number ∷ []) (λ k. omega arith)
-      (made_adds (slot_at h.ports.conns app slot) app slot j time b h (omega (arith, low, least)) empty (turned_whole s.ports app slot w))
-  turn_make app slot j s time answer.NoBuffer low least empty w fits comes = (λ k. omega arith, turned_whole s.ports app slot w)
-  turn_make app slot j s time a low least empty w fits comes = absurd fits
+  turn_make : (seat : Seat) (j : Job) (s : State) (time : ℕ) (a : AnswerShown) → seat.app < 4 → seat.slot < 4 → s.out ≡ None → AreWhole s.ports → TurnsBy s time (plan.Make seat j) a
+  turn_make seat j s time (answer.Taken b) low least empty w fits comes =
+      let h : State = at_rest (asked_by f s time (plan.Make seat j)) in
+      moves_by s h (after_told s time (plan.Make seat j) (answer.Taken b)) [] (b.number ∷ []) (λ k. omega arith)
+      (made_adds (slot_at h.ports.conns seat) seat j time b h (omega (arith, low, least)) empty (turned_whole s.ports seat w))
+  turn_make seat j s time answer.NoBuffer low least empty w fits comes = (λ k. omega arith, turned_whole s.ports seat w)
+  turn_make seat j s time a low least empty w fits comes = absurd fits
 
   -- ---- the jobs, by which is owed
-  turn_task : (x : Task) (app slot : ℕ) (s : State) (time : ℕ) (a : AnswerShown) → IsTask time s.ports (app, slot, x) → s.out ≡ None → AreWhole s.ports → TurnsBy s time (plan_for app slot x) a
-  turn_task task.Tell app slot s time a is empty w = turn_tell app slot s time a w
-  turn_task task.Deliver app slot s time a is empty w = λ fits comes.
-      turn_deliver (delivery (machine_at s.ports app slot)) app slot s time a (omega (arith, is.app_there, w.few)) is.slot_there refl (deliver_job time s.ports app slot is.is_task) w fits
-  turn_task (task.Make j) app slot s time a is empty w = turn_make app slot j s time a (omega (arith, is.app_there, w.few)) is.slot_there empty w
+  turn_task : (x : Task) (seat : Seat) (s : State) (time : ℕ) (a : AnswerShown) → IsTask time s.ports (seat, x) → s.out ≡ None → AreWhole s.ports → TurnsBy s time (plan_for seat x) a
+  turn_task task.Tell seat s time a is empty w = turn_tell seat s time a w
+  turn_task task.Deliver seat s time a is empty w = λ fits comes.
+      turn_deliver (delivery (machine_at s.ports seat)) seat s time a (omega (arith, is.app_there, w.few)) is.slot_there refl (deliver_job time s.ports seat is.is_task) w fits
+  turn_task (task.Make j) seat s time a is empty w = turn_make seat j s time a (omega (arith, is.app_there, w.few)) is.slot_there empty w
 
-  turn_jobs : (owed : List Owed) (o : Option (ℕ × ℕ × Task)) (s : State) (time : ℕ) (a : AnswerShown) → next_task time s.ports ≡ o → s.out ≡ None → AreWhole s.ports → TurnsBy s time (jobs_by owed o) a
+  turn_jobs : (owed : List Owed) (o : Option (Seat × Task)) (s : State) (time : ℕ) (a : AnswerShown) → next_task time s.ports ≡ o → s.out ≡ None → AreWhole s.ports → TurnsBy s time (jobs_by owed o) a
   turn_jobs (x ∷ xs) o s time a e empty w = turn_reply x.app s time a w
-  turn_jobs [] (Some t) s time a e empty w = turn_task t.2 t.0 t.1 s time a (task_there time s.ports t e) empty w
+  turn_jobs [] (Some t) s time a e empty w = turn_task t.1 t.0 s time a (task_there time s.ports t e) empty w
   turn_jobs [] None s time a e empty w = turn_rest s time a w
 
   -- ---- the work that was found

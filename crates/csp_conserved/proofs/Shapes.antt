@@ -1,11 +1,15 @@
 -- No step of a node's ports changes how many applications and slots there are.
-use Rattle.std.proofs.Common.{◌≡◌, ℕ, ◌+◌, ◌*◌, ◌/◌, ◌%◌, Bool, true, false, nat_lt, Option, None, Some, List, [], ◌∷◌, length, refl, ap, ◌∙◌}
+use Rattle.std.proofs.Common.{◌≡◌, ℕ, ◌+◌, ◌*◌, Bool, true, false, nat_lt, Option, None, Some, List, [], ◌∷◌, length, refl, ap, ◌∙◌}
+use Rattle.std.specs.Prelude.{if◌then◌else◌, is_some, unwrap_or}
 use Rattle.std.specs.List.{range_with_len}
+use Rattle.std.specs.Option.{option_map}
 use Rattle.std.proofs.lemmas.List.{length-set}
+use Rattle.csp_base.specs.Seat.{seat}
 use Rattle.csp_base.specs.declared.priority.Prio.{Prio}
+use Rattle.csp_base.specs.declared.seat.Seat.{Seat}
 use Rattle.csp_buffer.specs.Content.{Content}
 use Rattle.csp_conn.specs.Opening.{gone_on, is_refused, own_port_of}
-use Rattle.csp_conn.specs.PlainConns.{PlainConns, place_of, slot_at, with_slot}
+use Rattle.csp_conn.specs.PlainConns.{PlainConns, place_of, seat_of, slot_at, with_slot}
 use Rattle.csp_conn.specs.Slots.{between, is_free}
 use Rattle.csp_base.specs.declared.limits.TheConstants.{SLOTS}
 use Rattle.csp_conn.specs.declared.slot.Connection.{Connection}
@@ -13,15 +17,14 @@ use Rattle.csp_conn.specs.declared.slot.Slot.{Slot}
 use Rattle.csp_conn.specs.declared.slot.Slot.TheVariants as has
 use Rattle.csp_log.specs.declared.note.Note.{Note}
 use Rattle.csp_log.specs.declared.note.Note.TheVariants as note
-use Rattle.csp_ports.specs.Asking.{answered, answered_by, bind, bind_by, close, close_by, connect, connect_by, ending_in, freed_by, held_by, is_reliable, joined}
+use Rattle.csp_ports.specs.Asking.{answered, answered_by, bind, close, close_by, connect, ending_in, freed_by, held_by, is_reliable, joined, linked}
 use Rattle.csp_ports.proofs.Public.{by_dropped, by_settled}
-use Rattle.csp_ports.specs.Came.{Came}
-use Rattle.csp_ports.specs.Packets.{accepted, admitting_by, handing, invited, submitting, submitting_in}
+use Rattle.csp_ports.specs.Came.{Came, come}
+use Rattle.csp_ports.specs.Packets.{accepted, admitting_by, handing, submitting, submitting_in}
 use Rattle.csp_ports.specs.PlainPorts.{PlainPorts, anywhere, has_machine, is_closing, machine_at, terms_at}
 use Rattle.csp_ports.specs.Steps.{changed, closed_by, connected_by, dropped, dropped_of, freed, has_room, refused_by, settled, stepped, timed, timed_at, timed_in, went, where_machine}
 use Rattle.csp_ports.specs.Tasks.{delivered}
-use Rattle.csp_ports.specs.declared.handing.Invitation.{Invitation}
-use Rattle.csp_ports.specs.declared.origin.Origin.{Origin}
+use Rattle.csp_ports.specs.declared.flows.OwnFlows.{OwnFlows}
 use Rattle.csp_ports.specs.declared.owed.Owed.{Owed}
 use Rattle.csp_ports.specs.declared.request.Request.{Request}
 use Rattle.csp_ports.specs.declared.terms.Wish.{Wish}
@@ -49,42 +52,42 @@ abbrev pub shape : PlainPorts → ℕ × ℕ
 shape p = shape_of p.conns
 
 -- another slot, in its place
-slot_shape : (c : PlainConns) (app slot : ℕ) (what : Slot) → shape_of (with_slot c app slot what) ≡ shape_of c
-slot_shape c app slot what = ap (λ n. (c.apps, n)) (length-set c.slots (place_of app slot) what)
+slot_shape : (c : PlainConns) (s : Seat) (what : Slot) → shape_of (with_slot c s what) ≡ shape_of c
+slot_shape c s what = ap (λ n. (c.apps, n)) (length-set c.slots (place_of s) what)
 
 -- ---- a step of a machine, and what it changes
 
-freed_shape : (ordinal app slot : ℕ) (p : PlainPorts) → shape (freed ordinal app slot p).ports ≡ shape p
-freed_shape ordinal app slot p = slot_shape p.conns app slot has.Free
+freed_shape : (ordinal : ℕ) (s : Seat) (p : PlainPorts) → shape (freed ordinal s p).ports ≡ shape p
+freed_shape ordinal s p = slot_shape p.conns s has.Free
 
-connected_shape : (w : Wish) (app slot : ℕ) (p : PlainPorts) → shape (connected_by w app slot p) ≡ shape p
-connected_shape wish.Nothing app slot p = refl
-connected_shape wish.Connection app slot p = refl
-connected_shape wish.End app slot p = refl
-connected_shape wish.Ended app slot p = refl
+connected_shape : (w : Wish) (s : Seat) (p : PlainPorts) → shape (connected_by w s p) ≡ shape p
+connected_shape wish.Nothing s p = refl
+connected_shape wish.Connection s p = refl
+connected_shape wish.End s p = refl
+connected_shape wish.Ended s p = refl
 
-refused_shape : (w : Wish) (why : Cause) (app slot : ℕ) (p : PlainPorts) → shape (refused_by w why app slot p).ports ≡ shape p
-refused_shape wish.Nothing why app slot p = freed_shape (terms_at p app slot).ordinal app slot p
-refused_shape wish.Connection why app slot p = freed_shape (terms_at p app slot).ordinal app slot p
-refused_shape wish.End why app slot p = freed_shape (terms_at p app slot).ordinal app slot p
-refused_shape wish.Ended why app slot p = freed_shape (terms_at p app slot).ordinal app slot p
+refused_shape : (w : Wish) (why : Cause) (s : Seat) (p : PlainPorts) → shape (refused_by w why s p).ports ≡ shape p
+refused_shape wish.Nothing why s p = freed_shape (terms_at p s).ordinal s p
+refused_shape wish.Connection why s p = freed_shape (terms_at p s).ordinal s p
+refused_shape wish.End why s p = freed_shape (terms_at p s).ordinal s p
+refused_shape wish.Ended why s p = freed_shape (terms_at p s).ordinal s p
 
-closed_shape : (w : Wish) (was_open : Bool) (app slot : ℕ) (p : PlainPorts) → shape (closed_by w was_open app slot p).ports ≡ shape p
-closed_shape wish.Nothing true app slot p = refl
-closed_shape wish.Nothing false app slot p = freed_shape (terms_at p app slot).ordinal app slot p
-closed_shape wish.Connection was_open app slot p = refl
-closed_shape wish.End was_open app slot p = refl
-closed_shape wish.Ended was_open app slot p = refl
+closed_shape : (w : Wish) (was_open : Bool) (s : Seat) (p : PlainPorts) → shape (closed_by w was_open s p).ports ≡ shape p
+closed_shape wish.Nothing true s p = refl
+closed_shape wish.Nothing false s p = freed_shape (terms_at p s).ordinal s p
+closed_shape wish.Connection was_open s p = refl
+closed_shape wish.End was_open s p = refl
+closed_shape wish.Ended was_open s p = refl
 
-changed_shape : (x : Change) (app slot : ℕ) (p : PlainPorts) → shape (changed x app slot p).ports ≡ shape p
-changed_shape change.None app slot p = refl
-changed_shape change.Opened app slot p = connected_shape (terms_at p app slot).wish app slot p
-changed_shape (change.Refused why) app slot p = refused_shape (terms_at p app slot).wish why app slot p
-changed_shape change.Down app slot p = refl
-changed_shape change.Closed app slot p = closed_shape (terms_at p app slot).wish (machine_at p app slot).was_open app slot p
+changed_shape : (x : Change) (s : Seat) (p : PlainPorts) → shape (changed x s p).ports ≡ shape p
+changed_shape change.None s p = refl
+changed_shape change.Opened s p = connected_shape (terms_at p s).wish s p
+changed_shape (change.Refused why) s p = refused_shape (terms_at p s).wish why s p
+changed_shape change.Down s p = refl
+changed_shape change.Closed s p = closed_shape (terms_at p s).wish (machine_at p s).was_open s p
 
-went_shape : (before : State) (why : Cause) (app slot : ℕ) (r : PlainRdp) (p : PlainPorts) → shape (went before why app slot r p).ports ≡ shape p
-went_shape before why app slot r p = changed_shape (change_between before r.state why) app slot (stepped app slot r p).ports
+went_shape : (before : State) (why : Cause) (s : Seat) (r : PlainRdp) (p : PlainPorts) → shape (went before why s r p).ports ≡ shape p
+went_shape before why s r p = changed_shape (change_between before r.state why) s (stepped s r p).ports
 
 -- where the slot has a machine
 where_shape : (b : Bool) (step : PlainPorts → Came) (p : PlainPorts) → shape (step p).ports ≡ shape p → shape (where_machine b step p).ports ≡ shape p
@@ -104,11 +107,11 @@ settled_shape time app p = by_settled (λ q. shape q ≡ shape p) time app p ref
 timed_in_shape : (time : ℕ) (ks : List ℕ) (p : PlainPorts) → shape (timed_in time ks p).ports ≡ shape p
 timed_in_shape time [] p = refl
 timed_in_shape time (k ∷ ks) p =
-    let one = timed_at time (k / SLOTS) (k % SLOTS) p in
-    let r = machine_at p (k / SLOTS) (k % SLOTS) in
+    let one = timed_at time (seat_of k) p in
+    let r = machine_at p (seat_of k) in
     timed_in_shape time ks one.ports
-    ∙ where_shape (has_machine p (k / SLOTS) (k % SLOTS)) (went r.state machine_why.Timeout (k / SLOTS) (k % SLOTS) (ticked time r)) p
-    (went_shape r.state machine_why.Timeout (k / SLOTS) (k % SLOTS) (ticked time r) p)
+    ∙ where_shape (has_machine p (seat_of k)) (went r.state machine_why.Timeout (seat_of k) (ticked time r)) p
+    (went_shape r.state machine_why.Timeout (seat_of k) (ticked time r) p)
 
 dropped_of_shape : (apps : List ℕ) (p : PlainPorts) → shape (dropped_of apps p).ports ≡ shape p
 dropped_of_shape [] p = refl
@@ -121,29 +124,26 @@ timed_shape time p =
 
 -- ---- packets
 
-pub accepted_shape : (p : PlainPorts) (app slot : ℕ) (c : Connection) (prio : Prio) (flags : ℕ) → shape (accepted p app slot c prio flags) ≡ shape p
-accepted_shape p app slot c prio flags = slot_shape p.conns app slot (has.Open c)
+pub accepted_shape : (p : PlainPorts) (s : Seat) (c : Connection) (prio : Prio) (flags : ℕ) → shape (accepted p s c prio flags) ≡ shape p
+accepted_shape p s c prio flags = slot_shape p.conns s (has.Open c)
 
-pub invited_shape : (o : Origin) (p : PlainPorts) (app slot : ℕ) (c : Connection) (prio : Prio) (flags : ℕ) (i : Invitation) (time : ℕ) → shape (invited o p app slot c prio flags i time).ports ≡ shape p
-invited_shape o p app slot c prio flags i time = accepted_shape p app slot c prio flags
+pub handing_shape : (p : PlainPorts) (s : Seat) (h : RdpHead) (b : Content) (time : ℕ) → shape (handing p s h b time).ports ≡ shape p
+handing_shape p s h b time =
+    let r = machine_at p s in
+    let step : PlainPorts → Came = went r.state machine_why.Reset s (after_packet h b.trace.tag (anywhere b) time r) in
+    let gone = (where_machine (has_machine p s) step p).ports in
+    settled_shape time s.app (dropped s.app gone).ports ∙ dropped_shape s.app gone
+    ∙ where_shape (has_machine p s) step p (went_shape r.state machine_why.Reset s (after_packet h b.trace.tag (anywhere b) time r) p)
 
-pub handing_shape : (p : PlainPorts) (app slot : ℕ) (h : RdpHead) (b : Content) (time : ℕ) → shape (handing p app slot h b time).ports ≡ shape p
-handing_shape p app slot h b time =
-    let r = machine_at p app slot in
-    let step : PlainPorts → Came = went r.state machine_why.Reset app slot (after_packet h b.trace.tag (anywhere b) time r) in
-    let gone = (where_machine (has_machine p app slot) step p).ports in
-    settled_shape time app (dropped app gone).ports ∙ dropped_shape app gone
-    ∙ where_shape (has_machine p app slot) step p (went_shape r.state machine_why.Reset app slot (after_packet h b.trace.tag (anywhere b) time r) p)
-
-pub submitting_shape : (p : PlainPorts) (app slot : ℕ) (b : Content) (time : ℕ) → shape (submitting p app slot b time).ports ≡ shape p
-submitting_shape p app slot b time = by (machine_at p app slot).state
+pub submitting_shape : (p : PlainPorts) (s : Seat) (b : Content) (time : ℕ) → shape (submitting p s b time).ports ≡ shape p
+submitting_shape p s b time = by (machine_at p s).state
   where
-    room : (x : Bool) → shape (admitting_by x p app slot b time) ≡ shape p
+    room : (x : Bool) → shape (admitting_by x p s b time) ≡ shape p
     room true = refl
     room false = refl
 
-    by : (st : State) → shape (submitting_in st p app slot b time).ports ≡ shape p
-    by Open = room (has_room (machine_at p app slot))
+    by : (st : State) → shape (submitting_in st p s b time).ports ≡ shape p
+    by Open = room (has_room (machine_at p s))
     by SynSent = refl
     by SynRcvd = refl
     by CloseWait = refl
@@ -151,58 +151,59 @@ submitting_shape p app slot b time = by (machine_at p app slot).state
 
 -- ---- what applications ask
 
+-- what holds of both holds of either
+pub either : {X : Type 0} (P : X → Type 0) (b : Bool) (x y : X) → P x → P y → P (if b then x else y)
+either P true x y one other = one
+either P false x y one other = other
+
 pub bind_shape : (p : PlainPorts) (app port need : ℕ) → shape (bind p app port need) ≡ shape p
-bind_shape p app port need = by (nat_lt port BINDABLE_PORTS) (owner_of p.bound port)
-  where
-    by : (b : Bool) (owner : Option (ℕ × ℕ)) → shape (bind_by b owner p app port need) ≡ shape p
-    by false owner = refl
-    by true (Some owner) = refl
-    by true None = refl
+bind_shape p app port need =
+    let same : PlainPorts → Type 0 = λ q. shape q ≡ shape p in
+    either same (nat_lt port BINDABLE_PORTS) _ _ (either same (is_some (owner_of p.bound port)) _ _ refl refl) refl
 
 gone_on_shape : (c : PlainConns) (own : ℕ) (from : Option ℕ) → shape_of (gone_on c own from) ≡ shape_of c
 gone_on_shape c own None = refl
 gone_on_shape c own (Some port) = refl
 
-joined_shape : (reliable : Bool) (o : Origin) (p : PlainPorts) (app : ℕ) (r : Request) (own time : ℕ) → shape (joined reliable o p app r own time).ports ≡ shape p
-joined_shape true o p app r own time = gone_on_shape (with_slot p.conns app r.slot (has.Open (between r.dest r.port own))) own r.from ∙ slot_shape p.conns app r.slot (has.Open (between r.dest r.port own))
-joined_shape false o p app r own time = gone_on_shape (with_slot p.conns app r.slot (has.Open (between r.dest r.port own))) own r.from ∙ slot_shape p.conns app r.slot (has.Open (between r.dest r.port own))
+linked_shape : (w : Wish) (p : PlainPorts) (r : Request) (own : ℕ) → shape (linked w p r own) ≡ shape p
+linked_shape w p r own = let c = has.Open (between r.dest r.port own) in gone_on_shape (with_slot p.conns r.seat c) own r.from ∙ slot_shape p.conns r.seat c
 
-pub connect_shape : (o : Origin) (p : PlainPorts) (app : ℕ) (r : Request) (time : ℕ) → shape (connect o p app r time).ports ≡ shape p
-connect_shape o p app r time = by (slot_at p.conns app r.slot) (is_refused p.conns r.dest r.from) (own_port_of p.conns r.dest r.from)
+pub connect_shape : (o : OwnFlows) (p : PlainPorts) (r : Request) (time : ℕ) → shape (connect o p r time).ports ≡ shape p
+connect_shape o p r time = either same (is_free (slot_at p.conns r.seat)) _ _ (either same (is_refused p.conns r.dest r.from) _ _ refl (by (own_port_of p.conns r.dest r.from))) refl
   where
-    by : (s : Slot) (refused : Bool) (own : Option ℕ) → shape (connect_by s refused own o p app r time).ports ≡ shape p
-    by has.Free true own = refl
-    by has.Free false (Some own) = joined_shape (is_reliable r.flags) o p app r own time
-    by has.Free false None = refl
-    by has.Held refused own = refl
-    by (has.Open _) refused own = refl
+    same : Came → Type 0
+    same c = shape c.ports ≡ shape p
 
-held_shape : (free : Bool) (p : PlainPorts) (app slot : ℕ) → shape (held_by free p app slot) ≡ shape p
-held_shape true p app slot = slot_shape p.conns app slot has.Held
-held_shape false p app slot = refl
+    by : (own : Option ℕ) → same (unwrap_or (option_map (λ own. joined o p r own time) own) (come p))
+    by None = refl
+    by (Some own) = either same (is_reliable r.flags) _ _ (linked_shape wish.Connection p r own) (linked_shape wish.Nothing p r own)
 
-ending_shape : (st : State) (app slot : ℕ) (p : PlainPorts) → shape (ending_in st app slot p) ≡ shape p
-ending_shape Closed app slot p = refl
-ending_shape SynSent app slot p = refl
-ending_shape SynRcvd app slot p = refl
-ending_shape Open app slot p = refl
-ending_shape CloseWait app slot p = refl
+held_shape : (free : Bool) (p : PlainPorts) (s : Seat) → shape (held_by free p s) ≡ shape p
+held_shape true p s = slot_shape p.conns s has.Held
+held_shape false p s = refl
 
-pub close_shape : (p : PlainPorts) (app slot time : ℕ) → shape (close p app slot time).ports ≡ shape p
-close_shape p app slot time = by (is_closing (terms_at p app slot).wish)
+ending_shape : (st : State) (s : Seat) (p : PlainPorts) → shape (ending_in st s p) ≡ shape p
+ending_shape Closed s p = refl
+ending_shape SynSent s p = refl
+ending_shape SynRcvd s p = refl
+ending_shape Open s p = refl
+ending_shape CloseWait s p = refl
+
+pub close_shape : (p : PlainPorts) (s : Seat) (time : ℕ) → shape (close p s time).ports ≡ shape p
+close_shape p s time = by (is_closing (terms_at p s).wish)
   where
-    by : (closing_now : Bool) → shape (close_by closing_now p app slot time).ports ≡ shape p
+    by : (closing_now : Bool) → shape (close_by closing_now p s time).ports ≡ shape p
     by true = refl
     by false =
-        let r = closing time (machine_at p app slot) in
-        let q = held_by (is_free (slot_at p.conns app slot)) p app slot in
-        ending_shape r.state app slot (where_machine (has_machine p app slot) (stepped app slot r) q).ports ∙ where_shape (has_machine p app slot) (stepped app slot r) q refl
-        ∙ held_shape (is_free (slot_at p.conns app slot)) p app slot
+        let r = closing time (machine_at p s) in
+        let q = held_by (is_free (slot_at p.conns s)) p s in
+        ending_shape r.state s (where_machine (has_machine p s) (stepped s r) q).ports ∙ where_shape (has_machine p s) (stepped s r) q refl
+        ∙ held_shape (is_free (slot_at p.conns s)) p s
 
 -- ---- what is answered and delivered
 
 ended_shape : (n : Note) (app : ℕ) (p : PlainPorts) → shape (freed_by n app p).ports ≡ shape p
-ended_shape (note.Closed slot) app p = freed_shape ((terms_at p app slot).ordinal + 1) app slot p
+ended_shape (note.Closed slot) app p = freed_shape ((terms_at p (seat app slot)).ordinal + 1) (seat app slot) p
 ended_shape note.Bound app p = refl
 ended_shape (note.Connected slot) app p = refl
 ended_shape (note.Refused reason) app p = refl
@@ -218,7 +219,7 @@ answered_shape p = by p.owed
     by [] = refl
     by (o ∷ os) = ended_shape o.note o.app (record p { owed = os })
 
-pub delivered_shape : (time app slot : ℕ) (p : PlainPorts) → shape (delivered time app slot p).ports ≡ shape p
-delivered_shape time app slot p =
-    let r = machine_at p app slot in
-    dropped_shape app (went r.state machine_why.Reset app slot (delivering time r) p).ports ∙ went_shape r.state machine_why.Reset app slot (delivering time r) p
+pub delivered_shape : (time : ℕ) (s : Seat) (p : PlainPorts) → shape (delivered time s p).ports ≡ shape p
+delivered_shape time s p =
+    let r = machine_at p s in
+    dropped_shape s.app (went r.state machine_why.Reset s (delivering time r) p).ports ∙ went_shape r.state machine_why.Reset s (delivering time r) p
