@@ -14,7 +14,7 @@ use Rattle.csp_app.specs.Telling.{at_rest, tells}
 use Rattle.csp_app.specs.ToldApp.{ToldApp, over, still}
 use Rattle.csp_app.specs.Turn.{rests, giving_op, op_of, popped, pushing_op, told_of, until_told}
 use Rattle.csp_app.specs.declared.plan.AppPlan.TheVariants as plan
-use Rattle.csp_app.specs.declared.plan.AppPlan.{AppPlan as Plan}
+use Rattle.csp_app.specs.declared.plan.AppPlan.{AppPlan}
 use Rattle.csp_buffer.specs.Content.{Content}
 use Rattle.csp_log.specs.Weights.{item_bytes}
 use Rattle.csp_log.specs.declared.note.Note.TheVariants as note
@@ -41,7 +41,7 @@ made_op : (number mark : ℕ) (o : Option Content) → IfSome o IsData → IsLig
 made_op number mark None h = tt
 made_op number mark (Some b) h = h
 
-op_light : (s : PlainApp) (now : ℕ) (p : Plan) → IsLightApp s → IsLightOp (op_of s.number (turn_of s now p))
+op_light : (s : PlainApp) (now : ℕ) (p : AppPlan) → IsLightApp s → IsLightOp (op_of s.number (turn_of s now p))
 op_light s now plan.Rest h = tt
 op_light s now plan.Return h = giving_light s.taken h.taken
 op_light s now plan.Look h = tt
@@ -60,7 +60,7 @@ pub asks_light : (s : PlainApp) (time : ℕ) → IsLightApp s → IsLightOp (ask
 asks_light s time h = op_light s time (plan_of s) h
 
 -- what comes back of a push was data
-abbrev most_for : Plan → ℕ
+abbrev most_for : AppPlan → ℕ
 most_for plan.Push = 522
 most_for _ = 531
 
@@ -68,7 +68,7 @@ made_most : (number mark : ℕ) (o : Option Content) → most_of (pushing_op num
 made_most number mark None = omega arith
 made_most number mark (Some b) = omega arith
 
-most_plan : (s : PlainApp) (now : ℕ) (p : Plan) → most_of (op_of s.number (turn_of s now p)) ≤ most_for p
+most_plan : (s : PlainApp) (now : ℕ) (p : AppPlan) → most_of (op_of s.number (turn_of s now p)) ≤ most_for p
 most_plan s now plan.Push = made_most s.number s.mark s.made
 most_plan s now plan.Rest = most_small (op_of s.number (turn_of s now plan.Rest))
 most_plan s now plan.Return = most_small (op_of s.number (turn_of s now plan.Return))
@@ -84,7 +84,7 @@ most_plan s now (plan.Receive slot packets rounds) = most_small (op_of s.number 
 most_plan s now (plan.Wait rounds) = most_small (op_of s.number (turn_of s now (plan.Wait rounds)))
 
 -- what it hands over it has no more
-until_light : (s : PlainApp) (now : ℕ) (p : Plan) → IsLightApp s → IsLightApp (until_told s (turn_of s now p))
+until_light : (s : PlainApp) (now : ℕ) (p : AppPlan) → IsLightApp s → IsLightApp (until_told s (turn_of s now p))
 until_light s now plan.Rest h = h
 until_light s now plan.Return h = record { steps = h.steps; taken = tt; made = h.made; held = h.held }
 until_light s now plan.Look h = h
@@ -150,7 +150,7 @@ rests_light : (s : PlainApp) (t : ToldApp) (a : AnswerShown) → IsLightApp t.st
 rests_light s t answer.Nothing done h = done
 rests_light s t a done h = h
 
-told_light : (s : PlainApp) (now : ℕ) (p : Plan) (a : AnswerShown) → IfSome (item_in a) (λ i. item_bytes i ≤ most_for p) → IfSome (buffer_in a) IsLight → IsLightApp s → IsLightApp (told_of s (turn_of s now p) a).state
+told_light : (s : PlainApp) (now : ℕ) (p : AppPlan) (a : AnswerShown) → IfSome (item_in a) (λ i. item_bytes i ≤ most_for p) → IfSome (buffer_in a) IsLight → IsLightApp s → IsLightApp (told_of s (turn_of s now p) a).state
 told_light s now plan.Rest a items buffers h = rests_light s (still s) a h h
 told_light s now plan.Skip a items buffers h = rests_light s (over s) a h h
 told_light s now (plan.Use slot packets) a items buffers h = rests_light s (satisfied slot packets s) a h h

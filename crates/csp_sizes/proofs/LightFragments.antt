@@ -10,7 +10,7 @@ use Rattle.csp_base.specs.declared.traces.Trace.{Trace}
 use Rattle.csp_can.proofs.Public.{begin_by, measured_by, more_by}
 use Rattle.csp_can.specs.Begins.{begin_length}
 use Rattle.csp_can.specs.Fragments.{begin_bytes, first_head, fragments_of, frames_after, more_frame, more_frames}
-use Rattle.csp_can.specs.Frames.{Frame as CanPart, written}
+use Rattle.csp_can.specs.Frames.{Frame, written}
 use Rattle.csp_can.specs.Identifiers.{key_of, same_key}
 use Rattle.csp_can.specs.Listening.{Listening, answered, listened}
 use Rattle.csp_can.specs.Open.{counters, done, fresh, gone_on, remove_first, ruling, standing, without}
@@ -29,13 +29,13 @@ use Rattle.csp_sizes.specs.Light.{IsLightFrame}
 
 -- ---- the frames that a packet is cut into
 
-abbrev AreFrames : List CanPart → Type 0
+abbrev AreFrames : List Frame → Type 0
 AreFrames fs = All (λ f. length f.bytes ≤ 531) fs
 
 more_light : (head : Identifier) (n : ℕ) (rest : List ℕ) → AreFrames (more_frames head n rest)
 more_light head zero rest = All-nil (λ f. length f.bytes ≤ 531)
 more_light head (suc n) rest =
-    All-cons (λ (f : CanPart). length f.bytes ≤ 531) (more_frame head n rest) (more_frames head n (drop 8 rest)) (omega (arith, length-take 8 rest)) (more_light head n (drop 8 rest))
+    All-cons (λ (f : Frame). length f.bytes ≤ 531) (more_frame head n rest) (more_frames head n (drop 8 rest)) (omega (arith, length-take 8 rest)) (more_light head n (drop 8 rest))
 
 begin_light : (header : ℕ) (payload : List ℕ) → length (begin_bytes header payload) ≤ 531
 begin_light header payload =
@@ -46,7 +46,7 @@ begin_light header payload =
 fragments_light : (header : ℕ) (payload : List ℕ) (dest id : ℕ) → AreFrames (fragments_of header payload dest id)
 fragments_light header payload dest id =
     let head = first_head header payload dest id in
-    All-cons (λ (f : CanPart). length f.bytes ≤ 531) (record { head = head; bytes = begin_bytes header payload }) (more_frames head (frames_after (length payload)) (drop 2 payload)) (begin_light header payload)
+    All-cons (λ (f : Frame). length f.bytes ≤ 531) (record { head = head; bytes = begin_bytes header payload }) (more_frames head (frames_after (length payload)) (drop 2 payload)) (begin_light header payload)
     (more_light head (frames_after (length payload)) (drop 2 payload))
 
 pub frames_light : (trace : Trace) (header : ℕ) (payload : List ℕ) (dest id : ℕ) → All IsLightFrame (map (can_frame trace) (map written (fragments_of header payload dest id)))

@@ -2,29 +2,31 @@
 use Rattle.std.proofs.Common.{length-append, suc, zero, ◌≡◌, ℕ, ◌+◌, ◌*◌, ◌≤◌, Bool, true, false, List, [], ◌∷◌, ◌++◌, length, Option, None, Some, refl, sym, ap, ◌∙◌, subst, arith, get_or}
 use Rattle.std.proofs.lemmas.List.Elements.{All-append, All-cons, All-nil, All-replicate, All-set}
 use Rattle.std.specs.List.{All, range_with_len}
-use Rattle.std.specs.Prelude.{IfSome, slice_set, unwrap_or, ◌/◌, ◌%◌}
+use Rattle.std.specs.Option.{option_map}
+use Rattle.std.specs.Prelude.{IfSome, if◌then◌else◌, slice_set, unwrap_or}
+use Rattle.csp_base.specs.Seat.{seat}
+use Rattle.csp_base.specs.declared.seat.Seat.{Seat}
 use Rattle.csp_base.specs.declared.priority.Prio.{Prio}
 use Rattle.csp_buffer.specs.Content.{Content}
 use Rattle.csp_buffer.specs.PlainBuffer.{PlainBuffer}
 use Rattle.csp_conn.specs.Opening.{is_refused, opened, own_port_of}
-use Rattle.csp_conn.specs.PlainConns.{place_of, slot_at, with_slot}
+use Rattle.csp_conn.specs.PlainConns.{place_of, seat_of, slot_at, with_slot}
 use Rattle.csp_conn.specs.Slots.{between, is_free}
 use Rattle.csp_base.specs.declared.limits.TheConstants.{MAX_APPS, SLOTS, ALL_SLOTS}
 use Rattle.csp_conn.specs.declared.slot.Connection.{Connection}
-use Rattle.csp_conn.specs.declared.slot.Slot.TheVariants.{Free, Held, Open as Opened}
-use Rattle.csp_conn.specs.declared.slot.Slot.{Slot}
+use Rattle.csp_conn.specs.declared.slot.Slot.TheVariants as has
 use Rattle.csp_log.specs.declared.event.Discard.TheVariants as why
 use Rattle.csp_log.specs.declared.note.Note.TheVariants as note
 use Rattle.csp_log.specs.declared.note.Note.{Note}
 use Rattle.csp_ports.proofs.Public.{all_or, by_dropped, by_settled, machine_listed, machines_of_machine, machines_of_terms}
-use Rattle.csp_ports.specs.Asking.{is_reliable, answered, answered_by, close, close_by, connect, connect_by, ending_in, freed_by, held_by, joined, linked}
+use Rattle.csp_ports.specs.Asking.{answered, answered_by, asking, close, close_by, connect, ending_in, freed_by, held_by, is_reliable, joined, linked, plain}
 use Rattle.csp_ports.specs.Came.{Came, come, discarding, pictures, then}
 use Rattle.csp_ports.specs.Packets.{accepted, admitting_by, back_by, handing, invited, submitting, submitting_in}
 use Rattle.csp_ports.specs.PlainPorts.{PlainPorts, PlainStalled, anywhere, has_machine, machine_at, machine_in, machines_of, ports_of, stalled_at, start_of, state_at, terms_at, untouched, wishing, with_machine, with_machine_or, with_stalled, with_terms, is_closing}
-use Rattle.csp_ports.specs.Steps.{changed, closed_by, connected_by, dropped, dropped_of, freed, has_room, refused, refused_by, settled, stepped, timed, timed_at, timed_in, went, where_machine}
+use Rattle.csp_ports.specs.Steps.{changed, closed_by, connected_by, dropped, dropped_of, freed, has_room, refused_by, replaced, settled, stepped, timed, timed_at, timed_in, went, where_machine}
 use Rattle.csp_ports.specs.Tasks.{delivered, kept_again, made_in, making, told_down, without_packet}
 use Rattle.csp_ports.specs.declared.handing.Invitation.{Invitation}
-use Rattle.csp_ports.specs.declared.origin.Origin.{Origin}
+use Rattle.csp_ports.specs.declared.flows.OwnFlows.{OwnFlows}
 use Rattle.csp_ports.specs.declared.owed.Owed.{Owed}
 use Rattle.csp_ports.specs.declared.request.Request.{Request}
 use Rattle.csp_ports.specs.declared.terms.SlotState.{SlotState}
@@ -63,34 +65,34 @@ IsWaiting o = IfSome o (λ s. IsData s.buffer.picture)
 pub comes_come : (p : PlainPorts) → ArePorts p → Comes (come p)
 comes_come p h = record { ports = h; loose = All-nil IsLight }
 
-comes_then : (c : Came) (next : PlainPorts → Came) → Comes c → ((p : PlainPorts) → ArePorts p → Comes (next p)) → Comes (then c next)
+comes_then : (c : Came) (next : PlainPorts → Came) → Comes c → ((p : PlainPorts) → ArePorts p → Comes (next p)) → Comes ((then) c next)
 comes_then c next h more =
     let d = more c.ports h.ports in
     record { ports = d.ports; loose = All-append IsLight c.loose (next c.ports).loose h.loose d.loose }
 
 -- ---- machines in their places
 
-pub machine_light : (p : PlainPorts) (app slot : ℕ) → ArePorts p → IsLightMachine (machine_at p app slot)
-machine_light p app slot h = subst IsLightMachine (sym (machine_listed p app slot)) (all_or IsLightMachine (machines_of p) (place_of app slot) idle h.machines idle_light)
+pub machine_light : (p : PlainPorts) (s : Seat) → ArePorts p → IsLightMachine (machine_at p s)
+machine_light p s h = subst IsLightMachine (sym (machine_listed p s)) (all_or IsLightMachine (machines_of p) (place_of s) idle h.machines idle_light)
 
-with_machine_or_light : (p : PlainPorts) (app slot : ℕ) (o : Option PlainRdp) → IsLightMachine (unwrap_or o idle) → ArePorts p → ArePorts (with_machine_or p app slot o)
-with_machine_or_light p app slot o one h = record {
-  machines = subst (λ (rs : List PlainRdp). All IsLightMachine rs) (sym (machines_of_machine p app slot o)) (All-set IsLightMachine (machines_of p) (place_of app slot) (unwrap_or o idle) one h.machines);
+with_machine_or_light : (p : PlainPorts) (s : Seat) (o : Option PlainRdp) → IsLightMachine (unwrap_or o idle) → ArePorts p → ArePorts (with_machine_or p s o)
+with_machine_or_light p s o one h = record {
+  machines = subst (λ (rs : List PlainRdp). All IsLightMachine rs) (sym (machines_of_machine p s o)) (All-set IsLightMachine (machines_of p) (place_of s) (unwrap_or o idle) one h.machines);
   stalled = h.stalled;
 }
 
-pub with_machine_light : (p : PlainPorts) (app slot : ℕ) (r : PlainRdp) → IsLightMachine r → ArePorts p → ArePorts (with_machine p app slot r)
-with_machine_light p app slot r one h = with_machine_or_light p app slot (Some r) one h
+pub with_machine_light : (p : PlainPorts) (s : Seat) (r : PlainRdp) → IsLightMachine r → ArePorts p → ArePorts (with_machine p s r)
+with_machine_light p s r one h = with_machine_or_light p s (Some r) one h
 
 -- other terms of a slot leave the machines
-with_terms_light : (p : PlainPorts) (app slot : ℕ) (t : Terms) → ArePorts p → ArePorts (with_terms p app slot t)
-with_terms_light p app slot t h = record { machines = subst (λ (rs : List PlainRdp). All IsLightMachine rs) (sym (machines_of_terms p app slot t)) h.machines; stalled = h.stalled }
+with_terms_light : (p : PlainPorts) (s : Seat) (t : Terms) → ArePorts p → ArePorts (with_terms p s t)
+with_terms_light p s t h = record { machines = subst (λ (rs : List PlainRdp). All IsLightMachine rs) (sym (machines_of_terms p s t)) h.machines; stalled = h.stalled }
 
-wishing_light : (p : PlainPorts) (app slot : ℕ) (w : Wish) → ArePorts p → ArePorts (wishing p app slot w)
-wishing_light p app slot w h = with_terms_light p app slot (record (terms_at p app slot) { wish = w }) h
+wishing_light : (p : PlainPorts) (s : Seat) (w : Wish) → ArePorts p → ArePorts (wishing p s w)
+wishing_light p s w h = with_terms_light p s (record (terms_at p s) { wish = w }) h
 
-pub told_down_light : (app slot : ℕ) (p : PlainPorts) → ArePorts p → ArePorts (told_down app slot p)
-told_down_light app slot p h = with_terms_light p app slot (record (terms_at p app slot) { is_down = false }) h
+pub told_down_light : (s : Seat) (p : PlainPorts) → ArePorts p → ArePorts (told_down s p)
+told_down_light s p h = with_terms_light p s (record (terms_at p s) { is_down = false }) h
 
 stalled_light : (p : PlainPorts) (app : ℕ) → ArePorts p → IsWaiting (stalled_at p app)
 stalled_light p app h = all_or IsWaiting p.stalled app None h.stalled tt
@@ -100,49 +102,49 @@ with_stalled_light p app o one h = record { machines = h.machines; stalled = All
 
 -- ---- a machine makes a step
 
-stepped_light : (app slot : ℕ) (r : PlainRdp) (p : PlainPorts) → IsLightMachine r → ArePorts p → Comes (stepped app slot r p)
-stepped_light app slot r p one h = record { ports = with_machine_light p app slot (rested r) (rested_light r one) h; loose = unneeded_light r one.sized }
+stepped_light : (s : Seat) (r : PlainRdp) (p : PlainPorts) → IsLightMachine r → ArePorts p → Comes (stepped s r p)
+stepped_light s r p one h = record { ports = with_machine_light p s (rested r) (rested_light r one) h; loose = unneeded_light r one.sized }
 
 -- another takes its place
-let_go : (app slot : ℕ) (p : PlainPorts) → ArePorts p → All IsLight (pictures (rdp_buffers (machine_at p app slot)))
-let_go app slot p h = held_light (machine_at p app slot) (machine_light p app slot h).sized
+let_go : (s : Seat) (p : PlainPorts) → ArePorts p → All IsLight (pictures (rdp_buffers (machine_at p s)))
+let_go s p h = held_light (machine_at p s) (machine_light p s h).sized
 
-freed_light : (ordinal app slot : ℕ) (p : PlainPorts) → ArePorts p → Comes (freed ordinal app slot p)
-freed_light ordinal app slot p h =
-    let q : PlainPorts = with_terms (record p { conns = with_slot p.conns app slot Free }) app slot (record (terms_at p app slot) { wish = wish.Nothing; is_down = false; ordinal = ordinal }) in
-    let g : ArePorts q = with_terms_light (record p { conns = with_slot p.conns app slot Free }) app slot (record (terms_at p app slot) { wish = wish.Nothing; is_down = false; ordinal = ordinal }) h in
-    record { ports = with_machine_or_light q app slot None idle_light g; loose = let_go app slot q g }
+freed_light : (ordinal : ℕ) (s : Seat) (p : PlainPorts) → ArePorts p → Comes (freed ordinal s p)
+freed_light ordinal s p h =
+    let q : PlainPorts = with_terms (record p { conns = with_slot p.conns s has.Free }) s (record (terms_at p s) { wish = wish.Nothing; is_down = false; ordinal = ordinal }) in
+    let g : ArePorts q = with_terms_light (record p { conns = with_slot p.conns s has.Free }) s (record (terms_at p s) { wish = wish.Nothing; is_down = false; ordinal = ordinal }) h in
+    record { ports = with_machine_or_light q s None idle_light g; loose = let_go s q g }
 
-connected_light : (w : Wish) (app slot : ℕ) (p : PlainPorts) → ArePorts p → ArePorts (connected_by w app slot p)
-connected_light wish.Connection app slot p h = wishing_light p app slot wish.Nothing h
-connected_light wish.Nothing app slot p h = h
-connected_light wish.End app slot p h = h
-connected_light wish.Ended app slot p h = h
+connected_light : (w : Wish) (s : Seat) (p : PlainPorts) → ArePorts p → ArePorts (connected_by w s p)
+connected_light wish.Connection s p h = wishing_light p s wish.Nothing h
+connected_light wish.Nothing s p h = h
+connected_light wish.End s p h = h
+connected_light wish.Ended s p h = h
 
-refused_light : (w : Wish) (why : Cause) (app slot : ℕ) (p : PlainPorts) → ArePorts p → Comes (refused_by w why app slot p)
-refused_light wish.Connection why app slot p h = let c = freed_light (terms_at p app slot).ordinal app slot p h in record { ports = c.ports; loose = All-append IsLight (freed (terms_at p app slot).ordinal app slot p).loose [] c.loose (All-nil IsLight) }
-refused_light wish.Nothing why app slot p h = freed_light (terms_at p app slot).ordinal app slot p h
-refused_light wish.End why app slot p h = freed_light (terms_at p app slot).ordinal app slot p h
-refused_light wish.Ended why app slot p h = freed_light (terms_at p app slot).ordinal app slot p h
+refused_light : (w : Wish) (why : Cause) (s : Seat) (p : PlainPorts) → ArePorts p → Comes (refused_by w why s p)
+refused_light wish.Connection why s p h = let c = freed_light (terms_at p s).ordinal s p h in record { ports = c.ports; loose = All-append IsLight (freed (terms_at p s).ordinal s p).loose [] c.loose (All-nil IsLight) }
+refused_light wish.Nothing why s p h = freed_light (terms_at p s).ordinal s p h
+refused_light wish.End why s p h = freed_light (terms_at p s).ordinal s p h
+refused_light wish.Ended why s p h = freed_light (terms_at p s).ordinal s p h
 
-closed_light : (w : Wish) (was_open : Bool) (app slot : ℕ) (p : PlainPorts) → ArePorts p → Comes (closed_by w was_open app slot p)
-closed_light wish.End was_open app slot p h = record { ports = wishing_light p app slot wish.Ended h; loose = All-nil IsLight }
-closed_light wish.Nothing true app slot p h = record { ports = h; loose = All-nil IsLight }
-closed_light wish.Nothing false app slot p h = freed_light (terms_at p app slot).ordinal app slot p h
-closed_light wish.Connection was_open app slot p h = record { ports = h; loose = All-nil IsLight }
-closed_light wish.Ended was_open app slot p h = record { ports = h; loose = All-nil IsLight }
+closed_light : (w : Wish) (was_open : Bool) (s : Seat) (p : PlainPorts) → ArePorts p → Comes (closed_by w was_open s p)
+closed_light wish.End was_open s p h = record { ports = wishing_light p s wish.Ended h; loose = All-nil IsLight }
+closed_light wish.Nothing true s p h = record { ports = h; loose = All-nil IsLight }
+closed_light wish.Nothing false s p h = freed_light (terms_at p s).ordinal s p h
+closed_light wish.Connection was_open s p h = record { ports = h; loose = All-nil IsLight }
+closed_light wish.Ended was_open s p h = record { ports = h; loose = All-nil IsLight }
 
-changed_light : (ch : Change) (app slot : ℕ) (p : PlainPorts) → ArePorts p → Comes (changed ch app slot p)
-changed_light change.None app slot p h = comes_come p h
-changed_light change.Opened app slot p h = record { ports = connected_light (terms_at p app slot).wish app slot p h; loose = All-nil IsLight }
-changed_light (change.Refused why) app slot p h = refused_light (terms_at p app slot).wish why app slot p h
-changed_light change.Down app slot p h = record { ports = with_terms_light p app slot (record (terms_at p app slot) { is_down = true }) h; loose = All-nil IsLight }
-changed_light change.Closed app slot p h = closed_light (terms_at p app slot).wish (machine_at p app slot).was_open app slot p h
+changed_light : (ch : Change) (s : Seat) (p : PlainPorts) → ArePorts p → Comes (changed ch s p)
+changed_light change.None s p h = comes_come p h
+changed_light change.Opened s p h = record { ports = connected_light (terms_at p s).wish s p h; loose = All-nil IsLight }
+changed_light (change.Refused why) s p h = refused_light (terms_at p s).wish why s p h
+changed_light change.Down s p h = record { ports = with_terms_light p s (record (terms_at p s) { is_down = true }) h; loose = All-nil IsLight }
+changed_light change.Closed s p h = closed_light (terms_at p s).wish (machine_at p s).was_open s p h
 
-went_light : (before : State) (why : Cause) (app slot : ℕ) (r : PlainRdp) (p : PlainPorts) → IsLightMachine r → ArePorts p → Comes (went before why app slot r p)
-went_light before why app slot r p one h =
-    comes_then (stepped app slot r p) (changed (change_between before r.state why) app slot) (stepped_light app slot r p one h)
-    (λ q k. changed_light (change_between before r.state why) app slot q k)
+went_light : (before : State) (why : Cause) (s : Seat) (r : PlainRdp) (p : PlainPorts) → IsLightMachine r → ArePorts p → Comes (went before why s r p)
+went_light before why s r p one h =
+    comes_then (stepped s r p) (changed (change_between before r.state why) s) (stepped_light s r p one h)
+    (λ q k. changed_light (change_between before r.state why) s q k)
 
 -- where the slot has one
 where_light : (b : Bool) (step : PlainPorts → Came) (p : PlainPorts) → ArePorts p → Comes (step p) → Comes (where_machine b step p)
@@ -154,11 +156,11 @@ where_light false step p h c = comes_come p h
 waiting_light : (p : PlainPorts) (app : ℕ) (s : PlainStalled) → stalled_at p app ≡ Some s → ArePorts p → IsData s.buffer.picture
 waiting_light p app s e h = subst IsWaiting e (stalled_light p app h)
 
-admitted_light : (time app slot : ℕ) (b : PlainBuffer) (p : PlainPorts) → IsData b.picture → ArePorts p → ArePorts (with_machine p app slot (admitting b time (machine_at p app slot)))
-admitted_light time app slot b p short h = with_machine_light p app slot _ (admitting_light b time (machine_at p app slot) short (machine_light p app slot h)) h
+admitted_light : (time : ℕ) (s : Seat) (b : PlainBuffer) (p : PlainPorts) → IsData b.picture → ArePorts p → ArePorts (with_machine p s (admitting b time (machine_at p s)))
+admitted_light time s b p short h = with_machine_light p s _ (admitting_light b time (machine_at p s) short (machine_light p s h)) h
 
 settled_light : (time app : ℕ) (p : PlainPorts) → ArePorts p → ArePorts (settled time app p)
-settled_light time app p h = by_settled ArePorts time app p h (λ s e room. admitted_light time app s.slot s.buffer (with_stalled p app None) (waiting_light p app s e h) (with_stalled_light p app None tt h))
+settled_light time app p h = by_settled ArePorts time app p h (λ s e room. admitted_light time (seat app s.slot) s.buffer (with_stalled p app None) (waiting_light p app s e h) (with_stalled_light p app None tt h))
 
 -- it is discarded
 lost_light : (app : ℕ) (s : PlainStalled) (p : PlainPorts) → IsData s.buffer.picture → ArePorts p → Comes (discarding why.NoConn s.buffer.picture (with_stalled p app None))
@@ -172,14 +174,14 @@ dropped_light app p h = by_dropped Comes app p (λ opens. comes_come p h) (λ s 
 
 -- ---- the timers
 
-timed_at_light : (time app slot : ℕ) (p : PlainPorts) → ArePorts p → Comes (timed_at time app slot p)
-timed_at_light time app slot p h =
-    let r = machine_at p app slot in
-    where_light (has_machine p app slot) (went r.state machine_why.Timeout app slot (ticked time r)) p h (went_light r.state machine_why.Timeout app slot (ticked time r) p (ticked_light time r (machine_light p app slot h)) h)
+timed_at_light : (time : ℕ) (s : Seat) (p : PlainPorts) → ArePorts p → Comes (timed_at time s p)
+timed_at_light time s p h =
+    let r = machine_at p s in
+    where_light (has_machine p s) (went r.state machine_why.Timeout s (ticked time r)) p h (went_light r.state machine_why.Timeout s (ticked time r) p (ticked_light time r (machine_light p s h)) h)
 
 timed_in_light : (time : ℕ) (ks : List ℕ) (p : PlainPorts) → ArePorts p → Comes (timed_in time ks p)
 timed_in_light time [] p h = comes_come p h
-timed_in_light time (k ∷ ks) p h = comes_then (timed_at time (k / SLOTS) (k % SLOTS) p) (timed_in time ks) (timed_at_light time (k / SLOTS) (k % SLOTS) p h) (λ q g. timed_in_light time ks q g)
+timed_in_light time (k ∷ ks) p h = comes_then (timed_at time (seat_of k) p) (timed_in time ks) (timed_at_light time (seat_of k) p h) (λ q g. timed_in_light time ks q g)
 
 dropped_of_light : (apps : List ℕ) (p : PlainPorts) → ArePorts p → Comes (dropped_of apps p)
 dropped_of_light [] p h = comes_come p h
@@ -196,26 +198,26 @@ back_came : (o : Option PlainBuffer) (stray : Bool) (p : PlainPorts) → IfSome 
 back_came None stray p light h = record { ports = h; loose = All-nil IsLight }
 back_came (Some b) stray p light h = record { ports = h; loose = All-cons IsLight b.picture [] light (All-nil IsLight) }
 
-pub handing_light : (p : PlainPorts) (app slot : ℕ) (head : RdpHead) (b : Content) (time : ℕ) → IsLight b → ArePorts p → Comes (handing p app slot head b time)
-handing_light p app slot head b time light h =
-    let r = machine_at p app slot in
+pub handing_light : (p : PlainPorts) (s : Seat) (head : RdpHead) (b : Content) (time : ℕ) → IsLight b → ArePorts p → Comes (handing p s head b time)
+handing_light p s head b time light h =
+    let r = machine_at p s in
     let y = row_of r head b.payload in
     let next = after_packet head b.trace.tag (anywhere b) time r in
-    let third : PlainPorts → Came = λ q. come (settled time app q) in
-    let second : PlainPorts → Came = λ q. then (dropped app q) third in
-    let step : PlainPorts → Came = went r.state machine_why.Reset app slot next in
-    let first : PlainPorts → Came = λ q. then (where_machine (has_machine p app slot) step q) second in
+    let third : PlainPorts → Came = λ q. come (settled time s.app q) in
+    let second : PlainPorts → Came = λ q. (then) (dropped s.app q) third in
+    let step : PlainPorts → Came = went r.state machine_why.Reset s next in
+    let first : PlainPorts → Came = λ q. (then) (where_machine (has_machine p s) step q) second in
     let c =
     comes_then (back_by (back_of y (anywhere b)) (is_stray y) p) first (back_came (back_of y (anywhere b)) (is_stray y) p (back_light y (anywhere b) light) h) (λ q g.
-    comes_then (where_machine (has_machine p app slot) step q) second
-    (where_light (has_machine p app slot) step q g (went_light r.state machine_why.Reset app slot next q (handed_light head b.trace.tag (anywhere b) time r light (machine_light p app slot h)) g)) (λ q g.
-    comes_then (dropped app q) third (dropped_light app q g) (λ q g.
-    comes_come (settled time app q) (settled_light time app q g)))) in
+    comes_then (where_machine (has_machine p s) step q) second
+    (where_light (has_machine p s) step q g (went_light r.state machine_why.Reset s next q (handed_light head b.trace.tag (anywhere b) time r light (machine_light p s h)) g)) (λ q g.
+    comes_then (dropped s.app q) third (dropped_light s.app q g) (λ q g.
+    comes_come (settled time s.app q) (settled_light time s.app q g)))) in
     record { ports = c.ports; loose = c.loose }
 
-admitting_by_light : (room : Bool) (p : PlainPorts) (app slot : ℕ) (b : Content) (time : ℕ) → IsData b → ArePorts p → ArePorts (admitting_by room p app slot b time)
-admitting_by_light true p app slot b time short h = admitted_light time app slot (anywhere b) p short h
-admitting_by_light false p app slot b time short h = with_stalled_light p app (Some (record { slot = slot; buffer = anywhere b })) short h
+admitting_by_light : (room : Bool) (p : PlainPorts) (s : Seat) (b : Content) (time : ℕ) → IsData b → ArePorts p → ArePorts (admitting_by room p s b time)
+admitting_by_light true p s b time short h = admitted_light time s (anywhere b) p short h
+admitting_by_light false p s b time short h = with_stalled_light p s.app (Some (record { slot = s.slot; buffer = anywhere b })) short h
 
 lost_came : (p : PlainPorts) (b : Content) (c : Came) → IsData b → ArePorts p → c.ports ≡ p → c.loose ≡ b ∷ [] → Comes c
 lost_came p b c short h ports loose = record {
@@ -223,76 +225,78 @@ lost_came p b c short h ports loose = record {
   loose = subst (λ (bs : List Content). All IsLight bs) (sym loose) (All-cons IsLight b [] (data_light b short) (All-nil IsLight));
 }
 
-submitting_in_light : (st : State) (p : PlainPorts) (app slot : ℕ) (b : Content) (time : ℕ) → IsData b → ArePorts p → Comes (submitting_in st p app slot b time)
-submitting_in_light Open p app slot b time short h = record { ports = admitting_by_light (has_room (machine_at p app slot)) p app slot b time short h; loose = All-nil IsLight }
-submitting_in_light SynSent p app slot b time short h = lost_came p b _ short h refl refl
-submitting_in_light SynRcvd p app slot b time short h = lost_came p b _ short h refl refl
-submitting_in_light CloseWait p app slot b time short h = lost_came p b _ short h refl refl
-submitting_in_light Closed p app slot b time short h = lost_came p b _ short h refl refl
+submitting_in_light : (st : State) (p : PlainPorts) (s : Seat) (b : Content) (time : ℕ) → IsData b → ArePorts p → Comes (submitting_in st p s b time)
+submitting_in_light Open p s b time short h = record { ports = admitting_by_light (has_room (machine_at p s)) p s b time short h; loose = All-nil IsLight }
+submitting_in_light SynSent p s b time short h = lost_came p b _ short h refl refl
+submitting_in_light SynRcvd p s b time short h = lost_came p b _ short h refl refl
+submitting_in_light CloseWait p s b time short h = lost_came p b _ short h refl refl
+submitting_in_light Closed p s b time short h = lost_came p b _ short h refl refl
 
-pub submitting_light : (p : PlainPorts) (app slot : ℕ) (b : Content) (time : ℕ) → IsData b → ArePorts p → Comes (submitting p app slot b time)
-submitting_light p app slot b time short h = submitting_in_light (machine_at p app slot).state p app slot b time short h
+pub submitting_light : (p : PlainPorts) (s : Seat) (b : Content) (time : ℕ) → IsData b → ArePorts p → Comes (submitting p s b time)
+submitting_light p s b time short h = submitting_in_light (machine_at p s).state p s b time short h
 
-pub accepted_light : (p : PlainPorts) (app slot : ℕ) (c : Connection) (prio : Prio) (flags : ℕ) → ArePorts p → ArePorts (accepted p app slot c prio flags)
-accepted_light p app slot c prio flags h =
-    with_terms_light (record p { conns = with_slot p.conns app slot (Opened c) }) app slot (record (terms_at p app slot) { prio = prio; flags = flags; wish = wish.Nothing; is_down = false }) h
+pub accepted_light : (p : PlainPorts) (s : Seat) (c : Connection) (prio : Prio) (flags : ℕ) → ArePorts p → ArePorts (accepted p s c prio flags)
+accepted_light p s c prio flags h =
+    with_terms_light (record p { conns = with_slot p.conns s (has.Open c) }) s (record (terms_at p s) { prio = prio; flags = flags; wish = wish.Nothing; is_down = false }) h
 
-pub invited_light : (o : Origin) (p : PlainPorts) (app slot : ℕ) (c : Connection) (prio : Prio) (flags : ℕ) (i : Invitation) (time : ℕ) → i.options.window ≤ 20 → ArePorts p
-    → Comes (invited o p app slot c prio flags i time)
-invited_light o p app slot c prio flags i time narrow h =
-    let q : PlainPorts = record (accepted p app slot c prio flags) { made = p.made + 1 } in
-    let g : ArePorts q = accepted_light p app slot c prio flags h in
-    record { ports = with_machine_light q app slot _ (accepting_light (start_of o.seed p.made) i.options i.head.seq.0 i.tag o.node p.made time narrow) g; loose = let_go app slot q g }
+-- a slot's machine that begins
+begun_light : (s : Seat) (r : PlainRdp) (p : PlainPorts) → IsLightMachine r → ArePorts p → Comes (replaced s (Some r) (record p { made = p.made + 1 }))
+begun_light s r p light h = record { ports = with_machine_light p s r light h; loose = let_go s p h }
+
+pub invited_light : (o : OwnFlows) (i : Invitation) (s : Seat) (time : ℕ) (p : PlainPorts) → i.options.window ≤ 20 → ArePorts p → Comes (invited o i s time p)
+invited_light o i s time p narrow h = begun_light s _ p (accepting_light (start_of o.seed p.made) i.options i.head.seq.0 i.tag o.node p.made time narrow) h
 
 -- ---- what applications ask
 
-linked_light : (w : Wish) (p : PlainPorts) (app : ℕ) (r : Request) (own : ℕ) → ArePorts p → ArePorts (linked w p app r own)
-linked_light w p app r own h =
-    with_terms_light (record p { conns = opened p.conns app r.slot (between r.dest r.port own) r.from }) app r.slot (record (terms_at p app r.slot) { prio = r.prio; flags = r.flags; wish = w; is_down = false }) h
+linked_light : (w : Wish) (p : PlainPorts) (r : Request) (own : ℕ) → ArePorts p → ArePorts (linked w p r own)
+linked_light w p r own h =
+    with_terms_light (record p { conns = opened p.conns r.seat (between r.dest r.port own) r.from }) r.seat (record (terms_at p r.seat) { prio = r.prio; flags = r.flags; wish = w; is_down = false }) h
 
-joined_light : (reliable : Bool) (o : Origin) (p : PlainPorts) (app : ℕ) (r : Request) (own time : ℕ) → o.options.window ≤ 20 → ArePorts p → Comes (joined reliable o p app r own time)
-joined_light false o p app r own time narrow h = record { ports = linked_light wish.Nothing p app r own h; loose = All-nil IsLight }
-joined_light true o p app r own time narrow h =
-    let q : PlainPorts = record (linked wish.Connection p app r own) { made = p.made + 1 } in
-    let g : ArePorts q = linked_light wish.Connection p app r own h in
-    record { ports = with_machine_light q app r.slot _ (connecting_light (start_of o.seed p.made) o.options o.node p.made time narrow) g; loose = let_go app r.slot q g }
+-- what holds of both holds of the one that a test chooses
+pub either : {X : Type 0} (P : X → Type 0) (b : Bool) (x y : X) → P x → P y → P (if b then x else y)
+either P true x y one other = one
+either P false x y one other = other
 
-connect_by_light : (s : Slot) (refused : Bool) (own : Option ℕ) (o : Origin) (p : PlainPorts) (app : ℕ) (r : Request) (time : ℕ) → o.options.window ≤ 20 → ArePorts p → Comes (connect_by s refused own o p app r time)
-connect_by_light Free true own o p app r time narrow h = record { ports = h; loose = All-nil IsLight }
-connect_by_light Free false (Some own) o p app r time narrow h = joined_light (is_reliable r.flags) o p app r own time narrow h
-connect_by_light Free false None o p app r time narrow h = record { ports = h; loose = All-nil IsLight }
-connect_by_light Held refused own o p app r time narrow h = record { ports = h; loose = All-nil IsLight }
-connect_by_light (Opened c) refused own o p app r time narrow h = record { ports = h; loose = All-nil IsLight }
+joined_light : (o : OwnFlows) (p : PlainPorts) (r : Request) (own time : ℕ) → o.options.window ≤ 20 → ArePorts p → Comes (joined o p r own time)
+joined_light o p r own time narrow h =
+    let q : PlainPorts = linked wish.Connection p r own in
+    either Comes (is_reliable r.flags) (asking o r.seat time q) (plain p r own)
+    (begun_light r.seat _ q (connecting_light (start_of o.seed p.made) o.options o.node p.made time narrow) (linked_light wish.Connection p r own h))
+    (record { ports = linked_light wish.Nothing p r own h; loose = All-nil IsLight })
 
-pub connect_light : (o : Origin) (p : PlainPorts) (app : ℕ) (r : Request) (time : ℕ) → o.options.window ≤ 20 → ArePorts p → Comes (connect o p app r time)
-connect_light o p app r time narrow h = connect_by_light (slot_at p.conns app r.slot) (is_refused p.conns r.dest r.from) (own_port_of p.conns r.dest r.from) o p app r time narrow h
+pub connect_light : (o : OwnFlows) (p : PlainPorts) (r : Request) (time : ℕ) → o.options.window ≤ 20 → ArePorts p → Comes (connect o p r time)
+connect_light o p r time narrow h = either Comes (is_free (slot_at p.conns r.seat)) _ _ (either Comes (is_refused p.conns r.dest r.from) _ _ (comes_come _ h) (by (own_port_of p.conns r.dest r.from))) (comes_come _ h)
+  where
+    by : (own : Option ℕ) → Comes (unwrap_or (option_map (λ own. joined o p r own time) own) (come p))
+    by None = comes_come p h
+    by (Some own) = joined_light o p r own time narrow h
 
-ending_light : (st : State) (app slot : ℕ) (p : PlainPorts) → ArePorts p → ArePorts (ending_in st app slot p)
-ending_light Closed app slot p h = wishing_light p app slot wish.Ended h
-ending_light SynSent app slot p h = wishing_light p app slot wish.End h
-ending_light SynRcvd app slot p h = wishing_light p app slot wish.End h
-ending_light Open app slot p h = wishing_light p app slot wish.End h
-ending_light CloseWait app slot p h = wishing_light p app slot wish.End h
+ending_light : (st : State) (s : Seat) (p : PlainPorts) → ArePorts p → ArePorts (ending_in st s p)
+ending_light Closed s p h = wishing_light p s wish.Ended h
+ending_light SynSent s p h = wishing_light p s wish.End h
+ending_light SynRcvd s p h = wishing_light p s wish.End h
+ending_light Open s p h = wishing_light p s wish.End h
+ending_light CloseWait s p h = wishing_light p s wish.End h
 
-held_by_light : (free : Bool) (p : PlainPorts) (app slot : ℕ) → ArePorts p → ArePorts (held_by free p app slot)
-held_by_light true p app slot h = h
-held_by_light false p app slot h = h
+held_by_light : (free : Bool) (p : PlainPorts) (s : Seat) → ArePorts p → ArePorts (held_by free p s)
+held_by_light true p s h = h
+held_by_light false p s h = h
 
-close_by_light : (closes : Bool) (p : PlainPorts) (app slot time : ℕ) → ArePorts p → Comes (close_by closes p app slot time)
-close_by_light true p app slot time h = comes_come p h
-close_by_light false p app slot time h =
-    let r = closing time (machine_at p app slot) in
-    let q = held_by (is_free (slot_at p.conns app slot)) p app slot in
-    let g : ArePorts q = held_by_light (is_free (slot_at p.conns app slot)) p app slot h in
-    comes_then (where_machine (has_machine p app slot) (stepped app slot r) q) (λ x. come (ending_in r.state app slot x))
-    (where_light (has_machine p app slot) (stepped app slot r) q g (stepped_light app slot r q (closing_light time (machine_at p app slot) (machine_light p app slot h)) g))
-    (λ x g. comes_come (ending_in r.state app slot x) (ending_light r.state app slot x g))
+close_by_light : (closes : Bool) (p : PlainPorts) (s : Seat) (time : ℕ) → ArePorts p → Comes (close_by closes p s time)
+close_by_light true p s time h = comes_come p h
+close_by_light false p s time h =
+    let r = closing time (machine_at p s) in
+    let q = held_by (is_free (slot_at p.conns s)) p s in
+    let g : ArePorts q = held_by_light (is_free (slot_at p.conns s)) p s h in
+    comes_then (where_machine (has_machine p s) (stepped s r) q) (λ x. come (ending_in r.state s x))
+    (where_light (has_machine p s) (stepped s r) q g (stepped_light s r q (closing_light time (machine_at p s) (machine_light p s h)) g))
+    (λ x g. comes_come (ending_in r.state s x) (ending_light r.state s x g))
 
-pub close_light : (p : PlainPorts) (app slot time : ℕ) → ArePorts p → Comes (close p app slot time)
-close_light p app slot time h = close_by_light (is_closing (terms_at p app slot).wish) p app slot time h
+pub close_light : (p : PlainPorts) (s : Seat) (time : ℕ) → ArePorts p → Comes (close p s time)
+close_light p s time h = close_by_light (is_closing (terms_at p s).wish) p s time h
 
 freed_by_light : (n : Note) (app : ℕ) (p : PlainPorts) → ArePorts p → Comes (freed_by n app p)
-freed_by_light (note.Closed slot) app p h = freed_light ((terms_at p app slot).ordinal + 1) app slot p h
+freed_by_light (note.Closed slot) app p h = freed_light ((terms_at p (seat app slot)).ordinal + 1) (seat app slot) p h
 freed_by_light note.Bound app p h = comes_come p h
 freed_by_light (note.Connected slot) app p h = comes_come p h
 freed_by_light (note.Refused reason) app p h = comes_come p h
@@ -310,19 +314,19 @@ answered_light p h = answered_by_light p.owed p h
 
 -- ---- tasks
 
-pub made_light : (j : Job) (time app slot : ℕ) (b : Content) (p : PlainPorts) → ArePorts p → length (made_in j time app slot b p).payload ≤ 527
-made_light j time app slot b p h =
-    let r = machine_at p app slot in
+pub made_light : (j : Job) (time : ℕ) (seat : Seat) (b : Content) (p : PlainPorts) → ArePorts p → length (made_in j time seat b p).payload ≤ 527
+made_light j time seat b p h =
+    let r = machine_at p seat in
     let s = says j time r in
-    let short = says_short j time r (machine_light p app slot h) in
+    let short = says_short j time r (machine_light p seat h) in
     let whole : length (s.bytes ++ head_bytes (head_for s r)) ≡ length s.bytes + 5 = length-append s.bytes (head_bytes (head_for s r)) in
     omega (arith, short, whole)
 
-pub making_light : (j : Job) (time app slot : ℕ) (p : PlainPorts) → ArePorts p → ArePorts (making j time app slot p)
-making_light j time app slot p h = with_machine_light p app slot _ (sent_light j time (machine_at p app slot) (machine_light p app slot h)) h
+pub making_light : (j : Job) (time : ℕ) (s : Seat) (p : PlainPorts) → ArePorts p → ArePorts (making j time s p)
+making_light j time s p h = with_machine_light p s _ (sent_light j time (machine_at p s) (machine_light p s h)) h
 
-pub without_packet_light : (app slot : ℕ) (p : PlainPorts) → ArePorts p → ArePorts (without_packet app slot p)
-without_packet_light app slot p h = with_machine_light p app slot _ (taken_light (machine_at p app slot) (machine_light p app slot h)) h
+pub without_packet_light : (s : Seat) (p : PlainPorts) → ArePorts p → ArePorts (without_packet s p)
+without_packet_light s p h = with_machine_light p s _ (taken_light (machine_at p s) (machine_light p s h)) h
 
 -- the machine that a packet is taken out of stands there: of a slot past the end nothing is delivered
 there_or : (ss : List SlotState) (k : ℕ) (s : SlotState) → (machine_in (get_or ss k untouched)).state ≡ Open → get_or (slice_set ss k s) k untouched ≡ s
@@ -354,28 +358,28 @@ taken_is r opened =
     let same = taken_same r.state r in
     record { is_open = same.0 ∙ opened; missing = ap (λ (n : ℕ). is_kept (without_delivery r).recv (n + 1)) same.1 ∙ missing-taken r.state r opened }
 
-now_taken : (p : PlainPorts) (app slot : ℕ) → (machine_at p app slot).state ≡ Open → IsTaken (machine_at (without_packet app slot p) app slot)
-now_taken p app slot opened =
-    let r : PlainRdp = without_delivery (machine_at p app slot) in
-    subst IsTaken (sym (ap machine_in (there_or p.slots (place_of app slot) (record (state_at p app slot) { machine = Some r }) opened))) (taken_is (machine_at p app slot) opened)
+now_taken : (p : PlainPorts) (s : Seat) → (machine_at p s).state ≡ Open → IsTaken (machine_at (without_packet s p) s)
+now_taken p s opened =
+    let r : PlainRdp = without_delivery (machine_at p s) in
+    subst IsTaken (sym (ap machine_in (there_or p.slots (place_of s) (record (state_at p s) { machine = Some r }) opened))) (taken_is (machine_at p s) opened)
 
 -- a packet is delivered, or kept again
-pub delivered_after : (time app slot : ℕ) (p : PlainPorts) → (machine_at p app slot).state ≡ Open → ArePorts p → Comes (delivered time app slot (without_packet app slot p))
-delivered_after time app slot p opened h =
-    let q = without_packet app slot p in
-    let g = without_packet_light app slot p h in
-    let r = machine_at q app slot in
-    let is = now_taken p app slot opened in
-    comes_then (went r.state machine_why.Reset app slot (delivering time r) q) (dropped app)
-    (went_light r.state machine_why.Reset app slot (delivering time r) q (delivering_light time r is.is_open is.missing (machine_light q app slot g)) g)
-    (λ x k. dropped_light app x k)
+pub delivered_after : (time : ℕ) (s : Seat) (p : PlainPorts) → (machine_at p s).state ≡ Open → ArePorts p → Comes (delivered time s (without_packet s p))
+delivered_after time s p opened h =
+    let q = without_packet s p in
+    let g = without_packet_light s p h in
+    let r = machine_at q s in
+    let is = now_taken p s opened in
+    comes_then (went r.state machine_why.Reset s (delivering time r) q) (dropped s.app)
+    (went_light r.state machine_why.Reset s (delivering time r) q (delivering_light time r is.is_open is.missing (machine_light q s g)) g)
+    (λ x k. dropped_light s.app x k)
 
-pub kept_after : (app slot : ℕ) (b : Content) (p : PlainPorts) → (machine_at p app slot).state ≡ Open → IsLight b → ArePorts p → ArePorts (kept_again app slot b (without_packet app slot p))
-kept_after app slot b p opened light h =
-    let q = without_packet app slot p in
-    let g = without_packet_light app slot p h in
-    let is = now_taken p app slot opened in
-    with_machine_light q app slot _ (again_light (anywhere b) (machine_at q app slot) is.is_open is.missing light (machine_light q app slot g)) g
+pub kept_after : (s : Seat) (b : Content) (p : PlainPorts) → (machine_at p s).state ≡ Open → IsLight b → ArePorts p → ArePorts (kept_again s b (without_packet s p))
+kept_after s b p opened light h =
+    let q = without_packet s p in
+    let g = without_packet_light s p h in
+    let is = now_taken p s opened in
+    with_machine_light q s _ (again_light (anywhere b) (machine_at q s) is.is_open is.missing light (machine_light q s g)) g
 
 -- at the opening
 pub ports_opened : (apps : ℕ) → ArePorts (ports_of apps)

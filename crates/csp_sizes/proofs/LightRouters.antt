@@ -3,6 +3,7 @@ use Rattle.std.proofs.Common.{subst, sym, ◌≡◌, ℕ, ◌≤◌, Bool, true,
 use Rattle.std.proofs.lemmas.List.Elements.{All-append, All-cons, All-drop, All-head}
 use Rattle.std.specs.List.{All}
 use Rattle.std.specs.Prelude.{IfSome}
+use Rattle.csp_base.specs.declared.seat.Seat.{Seat}
 use Rattle.csp_buffer.specs.Content.{Content}
 use Rattle.csp_buffer.specs.PlainBuffer.{PlainBuffer}
 use Rattle.csp_conn.specs.PlainConns.{slot_at}
@@ -28,7 +29,7 @@ use Rattle.csp_sizes.specs.Light.{AreFacts, ArePorts, IsLight, IsLightAnswer, Is
 use Rattle.csp_stack.specs.Counting.{came_in, was_full}
 use Rattle.csp_stack.specs.Party.{asked_of, asks_of, told_of}
 use Rattle.csp_stack.specs.Readings.{buffer_in, is_pushed, item_in}
-use Rattle.csp_stack.specs.Router.{Facts, Leaving, Router, State, at_rest}
+use Rattle.csp_stack.specs.Router.{Facts, Leaving, Router, State, at_rest, router}
 use Rattle.csp_stack.specs.Rules.{Arrival, heard, made_on, packet_in, served}
 use Rattle.csp_stack.specs.Told.{Told, kept, ported, with_ports}
 use Rattle.csp_stack.specs.Turn as turn
@@ -54,9 +55,9 @@ replying_light : (os : List Owed) → IsLightOp (turn.replying os)
 replying_light [] = tt
 replying_light (o ∷ os) = omega arith
 
-delivering_op : (o : Option PlainBuffer) (app slot : ℕ) → IfSome o (λ b. IsLight b.picture) → IsLightOp (turn.delivering o app slot)
-delivering_op None app slot h = tt
-delivering_op (Some b) app slot h = h
+delivering_op : (o : Option PlainBuffer) (s : Seat) → IfSome o (λ b. IsLight b.picture) → IsLightOp (turn.delivering o s)
+delivering_op None s h = tt
+delivering_op (Some b) s h = h
 
 op_light : (f : Facts) (s : State) (time : ℕ) (p : Plan) → IsLightState s → IsLightOp (turn.turn_of f s time p).asks
 op_light f s time plan.Rest h = tt
@@ -65,9 +66,9 @@ op_light f s time (plan.Push q bytes) h = pushing_light s.out h.out
 op_light f s time plan.Hear h = tt
 op_light f s time (plan.Serve k) h = tt
 op_light f s time (plan.Reply k) h = replying_light s.ports.owed
-op_light f s time (plan.Tell app slot) h = omega arith
-op_light f s time (plan.Deliver app slot) h = delivering_op (delivery (machine_at s.ports app slot)) app slot (delivery_light (machine_at s.ports app slot) (machine_light s.ports app slot h.ports))
-op_light f s time (plan.Make app slot j) h = tt
+op_light f s time (plan.Tell seat) h = omega arith
+op_light f s time (plan.Deliver seat) h = delivering_op (delivery (machine_at s.ports seat)) seat (delivery_light (machine_at s.ports seat) (machine_light s.ports seat h.ports))
+op_light f s time (plan.Make seat j) h = tt
 
 pub asks_light : (r : Router) (time : ℕ) → IsLightRouter r → IsLightOp (asks_of r time)
 asks_light r time h = let s = turn.timed r.state time in op_light r.facts s time (turn.plan_of r.facts s time) (timed_state r.state time h.state)
@@ -94,30 +95,30 @@ back_light : (s : State) (o : Option Arrival) → IfSome o (λ p. IsLight p.buff
 back_light s o light h = brought_light (λ p. IsLight p.buffer) s _ o light h (λ p is. trashed s p.buffer is h)
 
 -- a delivery, of the packet that was taken out of these ports
-module _ (p : PlainPorts) (app slot time : ℕ) (s : State) (same : s.ports ≡ without_packet app slot p) (ports : ArePorts p) (h : IsLightState s) where
-  kept_light : (b : Content) → (machine_at p app slot).state ≡ Open → IsLight b → IsLightState (with_ports s (kept_again app slot b s.ports))
+module _ (p : PlainPorts) (seat : Seat) (time : ℕ) (s : State) (same : s.ports ≡ without_packet seat p) (ports : ArePorts p) (h : IsLightState s) where
+  kept_light : (b : Content) → (machine_at p seat).state ≡ Open → IsLight b → IsLightState (with_ports s (kept_again seat b s.ports))
   kept_light b opened light = record {
-    ports = subst (λ (q : PlainPorts). ArePorts (kept_again app slot b q)) (sym same) (kept_after app slot b p opened light ports);
+    ports = subst (λ (q : PlainPorts). ArePorts (kept_again seat b q)) (sym same) (kept_after seat b p opened light ports);
     trash = h.trash;
     out = h.out;
     stats = h.stats;
   }
 
-  back_light' : (i : ItemShown) → (machine_at p app slot).state ≡ Open → item_bytes i ≤ 531 → IsTold (turn.kept_back s app slot (packet_in (Some i)))
+  back_light' : (i : ItemShown) → (machine_at p seat).state ≡ Open → item_bytes i ≤ 531 → IsTold (turn.kept_back s seat (packet_in (Some i)))
   back_light' (item.Packet mark b) opened light = kept_light b opened light
   back_light' (item.Note n) opened light = h
   back_light' (item.Frame f) opened light = h
 
-  delivered_so : (machine_at p app slot).state ≡ Open → IsTold (ported s (delivered time app slot s.ports))
+  delivered_so : (machine_at p seat).state ≡ Open → IsTold (ported s (delivered time seat s.ports))
   delivered_so opened =
-      ported_light s (delivered time app slot s.ports) (subst (λ (q : PlainPorts). Comes (delivered time app slot q)) (sym same) (delivered_after time app slot p opened ports)) h
+      ported_light s (delivered time seat s.ports) (subst (λ (q : PlainPorts). Comes (delivered time seat q)) (sym same) (delivered_after time seat p opened ports)) h
 
-  told_delivering_light : (o : Option PlainBuffer) (a : AnswerShown) → delivery (machine_at p app slot) ≡ o → IsLightAnswer (turn.delivering o app slot) a
-      → IsTold (cond (is_pushed a) (ported s (delivered time app slot s.ports)) (turn.kept_back s app slot (packet_in (item_in a))))
+  told_delivering_light : (o : Option PlainBuffer) (a : AnswerShown) → delivery (machine_at p seat) ≡ o → IsLightAnswer (turn.delivering o seat) a
+      → IsTold (cond (is_pushed a) (ported s (delivered time seat s.ports)) (turn.kept_back s seat (packet_in (item_in a))))
   told_delivering_light None answer.Nothing e light = h
   told_delivering_light None a e light = absurd light
-  told_delivering_light (Some b) answer.Pushed e light = delivered_so (delivery_open (machine_at p app slot).state (machine_at p app slot) b e)
-  told_delivering_light (Some b) (answer.Full i) e light = back_light' i (delivery_open (machine_at p app slot).state (machine_at p app slot) b e) light
+  told_delivering_light (Some b) answer.Pushed e light = delivered_so (delivery_open (machine_at p seat).state (machine_at p seat) b e)
+  told_delivering_light (Some b) (answer.Full i) e light = back_light' i (delivery_open (machine_at p seat).state (machine_at p seat) b e) light
   told_delivering_light (Some b) a e light = absurd light
 
 told_light : (p : Plan) (f : Facts) (s : State) (time : ℕ) (a : AnswerShown) → AreFacts f → IsLightState s → IsLightAnswer (turn.turn_of f s time p).asks a
@@ -142,18 +143,18 @@ told_light (plan.Serve k) f s time a are h light =
 told_light (plan.Reply k) f s time a are h light =
     let t : State = at_rest (turn.asked_by f s time (plan.Reply k)) in
     pushed_light (is_pushed a) _ _ (ported_light t (answered t.ports) (answered_light t.ports h.ports) h) (back_light t (packet_in (item_in a)) (packet_came (item_in a) (any_came (turn.replying s.ports.owed) a light)) h)
-told_light (plan.Tell app slot) f s time a are h light =
-    let t : State = at_rest (turn.asked_by f s time (plan.Tell app slot)) in
-    let told : IsLightState (with_ports t (told_down app slot t.ports)) = record { ports = told_down_light app slot t.ports h.ports; trash = h.trash; out = h.out; stats = h.stats } in
-    pushed_light (is_pushed a) _ _ told (back_light t (packet_in (item_in a)) (packet_came (item_in a) (any_came (turn.turn_of f s time (plan.Tell app slot)).asks a light)) h)
-told_light (plan.Deliver app slot) f s time a are h light =
-    let p = turned app slot s.ports in
-    told_delivering_light p app slot time (at_rest (turn.asked_by f s time (plan.Deliver app slot))) refl h.ports
-    (record { ports = without_packet_light app slot p h.ports; trash = h.trash; out = h.out; stats = h.stats })
-    (delivery (machine_at s.ports app slot)) a refl light
-told_light (plan.Make app slot j) f s time a are h light =
-    let t : State = at_rest (turn.asked_by f s time (plan.Make app slot j)) in
-    brought_light IsLight t (made_on (slot_at t.ports.conns app slot) j f t app slot time) (buffer_in a) (buffer_came op.Take a light) h (λ b is. made_on_light (slot_at t.ports.conns app slot) j f t app slot time b is h)
+told_light (plan.Tell seat) f s time a are h light =
+    let t : State = at_rest (turn.asked_by f s time (plan.Tell seat)) in
+    let told : IsLightState (with_ports t (told_down seat t.ports)) = record { ports = told_down_light seat t.ports h.ports; trash = h.trash; out = h.out; stats = h.stats } in
+    pushed_light (is_pushed a) _ _ told (back_light t (packet_in (item_in a)) (packet_came (item_in a) (any_came (turn.turn_of f s time (plan.Tell seat)).asks a light)) h)
+told_light (plan.Deliver seat) f s time a are h light =
+    let p = turned seat s.ports in
+    told_delivering_light p seat time (at_rest (turn.asked_by f s time (plan.Deliver seat))) refl h.ports
+    (record { ports = without_packet_light seat p h.ports; trash = h.trash; out = h.out; stats = h.stats })
+    (delivery (machine_at s.ports seat)) a refl light
+told_light (plan.Make seat j) f s time a are h light =
+    let t : State = at_rest (turn.asked_by f s time (plan.Make seat j)) in
+    brought_light IsLight t (made_on (slot_at t.ports.conns seat) (seat, j) (router f t) time) (buffer_in a) (buffer_came op.Take a light) h (λ b is. made_on_light (slot_at t.ports.conns seat) j f t seat time b is h)
 
 pub router_light : (r : Router) (time : ℕ) (a : AnswerShown) → IsLightRouter r → IsLightAnswer (asks_of r time) a → IsLightRouter (told_of (asked_of r time) time a)
 router_light r time a h light =

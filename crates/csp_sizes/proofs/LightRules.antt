@@ -7,11 +7,13 @@ use Rattle.std.proofs.lemmas.Nat.{and_mask}
 use Rattle.std.specs.Int.RustNames.{bit_and}
 use Rattle.std.specs.Int.{from_be_bytes, to_be_bytes, w32}
 use Rattle.std.specs.List.{All}
-use Rattle.std.specs.Prelude.{◌==◌, ◌||◌, IfOk, IfSome, if◌then◌else◌, nat_lt, ◌^◌, get_or, min, slice_index, slice_set}
+use Rattle.std.specs.Prelude.{◌==◌, ◌||◌, IfOk, IfSome, if◌then◌else◌, is_some, nat_lt, ◌^◌, get_or, min, slice_index, slice_set}
+use Rattle.csp_base.specs.Seat.{seat}
+use Rattle.csp_base.specs.declared.seat.Seat.{Seat}
 use Rattle.csp_base.specs.Trace.{no_trace}
 use Rattle.csp_base.specs.declared.traces.Tag.{Tag}
 use Rattle.csp_buffer.specs.Content.{Content}
-use Rattle.csp_conn.specs.Opening.{first_free}
+use Rattle.csp_conn.specs.Opening.{free_seat}
 use Rattle.csp_conn.specs.PlainConns.{slot_at}
 use Rattle.csp_conn.specs.declared.slot.Connection.{Connection}
 use Rattle.csp_conn.specs.declared.slot.Slot.TheVariants as slot
@@ -31,9 +33,9 @@ use Rattle.csp_log.specs.declared.places.TheConstants.{UNMARKED}
 use Rattle.csp_log.specs.declared.shown.ItemShown.TheVariants as item
 use Rattle.csp_log.specs.declared.shown.ItemShown.{ItemShown}
 use Rattle.csp_ports.proofs.Public.{all_or}
-use Rattle.csp_ports.specs.Asking.{close, connect, is_reliable, bind_by}
+use Rattle.csp_ports.specs.Asking.{close, connect, is_reliable}
 use Rattle.csp_ports.specs.Came.{Came}
-use Rattle.csp_ports.specs.Packets.{handing, invited, submitting}
+use Rattle.csp_ports.specs.Packets.{accepted, handing, invited, submitting}
 use Rattle.csp_ports.specs.PlainPorts.{PlainPorts, machines_of, terms_at}
 use Rattle.csp_ports.specs.Tasks.{made_in, making}
 use Rattle.csp_ports.specs.declared.handing.Invitation.{Invitation}
@@ -56,7 +58,7 @@ use Rattle.csp_service.specs.declared.answers.Served.{Served}
 use Rattle.csp_service.specs.declared.stats.Count.TheVariants as count
 use Rattle.csp_service.specs.declared.stats.Count.{Count}
 use Rattle.csp_service.specs.declared.stats.Stats.{Stats}
-use Rattle.csp_sizes.proofs.LightPorts.{Comes, accepted_light, close_light, connect_light, handing_light, invited_light, made_light, making_light, submitting_light}
+use Rattle.csp_sizes.proofs.LightPorts.{Comes, accepted_light, close_light, connect_light, either, handing_light, invited_light, made_light, making_light, submitting_light}
 use Rattle.csp_sizes.proofs.LightServices.{answered_few, answered_short}
 use Rattle.csp_sizes.specs.Light.{AreFacts, ArePorts, IsData, IsFew, IsHeld, IsLight, IsLightState, room_of}
 use Rattle.csp_socket.specs.Bound.{owner_of}
@@ -65,7 +67,7 @@ use Rattle.csp_stack.specs.Counting.{counting, came_in, refused_by, sent_to, was
 use Rattle.csp_stack.proofs.Public.{by_rest, heard_here}
 use Rattle.csp_stack.specs.Comes.{heard_at_port, heard_at_socket, heard_elsewhere}
 use Rattle.csp_stack.specs.Readings.{is_checked, is_here, is_secured}
-use Rattle.csp_stack.specs.Router.{Facts, Leaving, State, origin_of}
+use Rattle.csp_stack.specs.Router.{Facts, Leaving, State, flows_of, router}
 use Rattle.csp_stack.specs.Rules as rules
 use Rattle.csp_stack.specs.Rules.{◌>>=◌, Arrival, Ruling, Decided, Left}
 use Rattle.csp_stack.specs.Sending.{headed, protected}
@@ -192,11 +194,6 @@ go_on : (P : Arrival → Type 0) (r : Ruling) (next : Arrival → Told) → IsRu
 go_on P (Left p) next h each = each p h
 go_on P (Decided t) next h each = h
 
--- of two, the one that a test chooses
-either : (b : Bool) (t u : Told) → IsTold t → IsTold u → IsTold (if b then t else u)
-either true t u one other = one
-either false t u one other = other
-
 -- a rule of one test
 go_if : (P : Arrival → Type 0) (b : Bool) (t : Told) (p : Arrival) → IsTold t → P p → IsRuled P (if b then Decided t else Left p)
 go_if P true t p told left = told
@@ -208,7 +205,7 @@ Arrives p = IsLight p.buffer
 forwarded_light : (row : Option Row) (s : State) (p : Arrival) → Arrives p → IsLightState s → IsTold (rules.forwarded row s p)
 forwarded_light None s p light h = trashed s p.buffer light h
 forwarded_light (Some row) s p light h =
-    either (row.iface == p.mark) (discarded s why.BackOut p.buffer) (leaving s (rules.by_row row p.buffer)) (trashed s p.buffer light h) (leaves s (rules.by_row row p.buffer) light h)
+    either IsTold (row.iface == p.mark) (discarded s why.BackOut p.buffer) (leaving s (rules.by_row row p.buffer)) (trashed s p.buffer light h) (leaves s (rules.by_row row p.buffer) light h)
 
 go_destination : (here : Bool) (t : Told) (p : Arrival) → Arrives p → IsTold t → IsRuled Arrives (if here then Left p else Decided t)
 go_destination true t p light told = light
@@ -219,27 +216,27 @@ go_checksum true None s p e cut light h = trashed (counting s p.mark count.Recei
 go_checksum true (Some payload) s p e cut light h = let less = cut_short p.buffer.payload payload cut in record { light = omega (arith, less, light); short = λ e. omega (arith, less, light) }
 go_checksum false o s p e cut light h = record { light = light; short = λ is. absurd (false≢true (sym e ∙ is)) }
 
-go_machine : (o : Option (List ℕ × RdpHead)) (s : State) (app number time : ℕ) (p : Arrival) → IfSome o (λ read. length read.0 ≤ length p.buffer.payload) → Arrives p → IsLightState s → IsTold (rules.to_machine o s app number time p)
-go_machine None s app number time p less light h = trashed s p.buffer light h
-go_machine (Some read) s app number time p less light h =
-    ported_light s (handing s.ports app number read.1 (record p.buffer { payload = read.0 }) time)
-    (handing_light s.ports app number read.1 (record p.buffer { payload = read.0 }) time (omega (arith, less, light)) h.ports) h
+go_machine : (o : Option (List ℕ × RdpHead)) (s : State) (seat : Seat) (time : ℕ) (p : Arrival) → IfSome o (λ read. length read.0 ≤ length p.buffer.payload) → Arrives p → IsLightState s → IsTold (rules.to_machine o s seat time p)
+go_machine None s seat time p less light h = trashed s p.buffer light h
+go_machine (Some read) s seat time p less light h =
+    ported_light s (handing s.ports seat read.1 (record p.buffer { payload = read.0 }) time)
+    (handing_light s.ports seat read.1 (record p.buffer { payload = read.0 }) time (omega (arith, less, light)) h.ports) h
 
-go_connection : (s : State) (app number time : ℕ) (p : Arrival) → Arrives p → IsLightState s → IsTold (rules.to_connection s app number time p)
-go_connection s app number time p light h =
-    either (is_reliable p.head.flags.0) (rules.to_machine (parted p.buffer.payload) s app number time p) (leaving s (rules.to_slot app number p.buffer))
-    (go_machine (parted p.buffer.payload) s app number time p (parted_short p.buffer.payload) light h) (leaves s (rules.to_slot app number p.buffer) light h)
+go_connection : (s : State) (seat : Seat) (time : ℕ) (p : Arrival) → Arrives p → IsLightState s → IsTold (rules.to_connection s seat time p)
+go_connection s seat time p light h =
+    either IsTold (is_reliable p.head.flags.0) (rules.to_machine (parted p.buffer.payload) s seat time p) (leaving s (rules.to_slot seat p.buffer))
+    (go_machine (parted p.buffer.payload) s seat time p (parted_short p.buffer.payload) light h) (leaves s (rules.to_slot seat p.buffer) light h)
 
-go_by_connection : (at : Option (ℕ × ℕ)) (s : State) (time : ℕ) (p : Arrival) → IsCut p → IsLightState s → IsRuled IsCut (rules.by_connection at s time p)
+go_by_connection : (found : Option Seat) (s : State) (time : ℕ) (p : Arrival) → IsCut p → IsLightState s → IsRuled IsCut (rules.by_connection found s time p)
 go_by_connection None s time p cut h = cut
-go_by_connection (Some at) s time p cut h =
-    let required = if rules.is_lacking s p then discarded s why.Required p.buffer else rules.to_connection s at.0 at.1 time p in
-    either (rules.is_mixed s at p) (discarded s why.Mixed p.buffer) required (trashed s p.buffer cut.light h)
-    (either (rules.is_lacking s p) (discarded s why.Required p.buffer) (rules.to_connection s at.0 at.1 time p) (trashed s p.buffer cut.light h) (go_connection s at.0 at.1 time p cut.light h))
+go_by_connection (Some seat) s time p cut h =
+    let required = if rules.is_lacking s p then discarded s why.Required p.buffer else rules.to_connection s seat time p in
+    either IsTold (rules.is_mixed s seat p) (discarded s why.Mixed p.buffer) required (trashed s p.buffer cut.light h)
+    (either IsTold (rules.is_lacking s p) (discarded s why.Required p.buffer) (rules.to_connection s seat time p) (trashed s p.buffer cut.light h) (go_connection s seat time p cut.light h))
 
-go_accepting : (free : Option ℕ) (s : State) (app : ℕ) (p : Arrival) → Arrives p → IsLightState s → IsTold (rules.accepting free s app p)
-go_accepting None s app p light h = trashed s p.buffer light h
-go_accepting (Some number) s app p light h = record { ports = accepted_light s.ports app number (rules.connection_of p.head) p.head.prio (rules.answer_flags p.head) h.ports; trash = h.trash; out = light; stats = h.stats }
+go_accepting : (free : Option Seat) (s : State) (p : Arrival) → Arrives p → IsLightState s → IsTold (rules.accepting free s p)
+go_accepting None s p light h = trashed s p.buffer light h
+go_accepting (Some seat) s p light h = record { ports = accepted_light s.ports seat (rules.connection_of p.head) p.head.prio (rules.answer_flags p.head) h.ports; trash = h.trash; out = light; stats = h.stats }
 
 -- the window that a packet asks for is one that a connection may have
 checked_narrow : (o : Options) → IfOk (options.checked o) (λ o. o.window ≤ 20)
@@ -272,24 +269,25 @@ invitation_in_narrow : (o : Option (List ℕ × RdpHead)) (tag : Option Tag) →
 invitation_in_narrow None tag = tt
 invitation_in_narrow (Some read) tag = asked_by_narrow (has_flag read.1 SYN) (has_flag read.1 ACK || has_flag read.1 RST) read.0 read.1 tag
 
-go_inviting : (i : Result Invitation Discard) (free : Option ℕ) (f : Facts) (s : State) (app time : ℕ) (p : Arrival) → IfOk i (λ i. i.options.window ≤ 20) → Arrives p → IsLightState s → IsTold (rules.inviting i free f s app time p)
-go_inviting (Err reason) free f s app time p narrow light h = trashed s p.buffer light h
-go_inviting (Ok i) None f s app time p narrow light h = trashed s p.buffer light h
-go_inviting (Ok i) (Some number) f s app time p narrow light h =
-    let c = invited (origin_of f) s.ports app number (rules.connection_of p.head) p.head.prio (rules.answer_flags p.head) i time in
-    let came = invited_light (origin_of f) s.ports app number (rules.connection_of p.head) p.head.prio (rules.answer_flags p.head) i time narrow h.ports in
+go_inviting : (i : Result Invitation Discard) (free : Option Seat) (f : Facts) (s : State) (time : ℕ) (p : Arrival) → IfOk i (λ i. i.options.window ≤ 20) → Arrives p → IsLightState s → IsTold (rules.inviting i free (router f s) time p)
+go_inviting (Err reason) free f s time p narrow light h = trashed s p.buffer light h
+go_inviting (Ok i) None f s time p narrow light h = trashed s p.buffer light h
+go_inviting (Ok i) (Some seat) f s time p narrow light h =
+    let q = accepted s.ports seat (rules.connection_of p.head) p.head.prio (rules.answer_flags p.head) in
+    let c = invited (flows_of f) i seat time q in
+    let came = invited_light (flows_of f) i seat time q narrow (accepted_light s.ports seat (rules.connection_of p.head) p.head.prio (rules.answer_flags p.head) h.ports) in
     trashed (ported s c).state p.buffer light (ported_light s c came h)
 
 go_opening : (app : ℕ) (f : Facts) (s : State) (time : ℕ) (p : Arrival) → Arrives p → IsLightState s → IsTold (rules.opening app f s time p)
 go_opening app f s time p light h =
-    let free = first_free s.ports.conns app in
-    either (is_reliable p.head.flags.0) (rules.inviting (rules.invitation_of p.buffer) free f s app time p) (rules.accepting free s app p)
-    (go_inviting (rules.invitation_of p.buffer) free f s app time p (invitation_in_narrow (parted p.buffer.payload) p.buffer.trace.tag) light h) (go_accepting free s app p light h)
+    let free = free_seat s.ports.conns app in
+    either IsTold (is_reliable p.head.flags.0) (rules.inviting (rules.invitation_of p.buffer) free (router f s) time p) (rules.accepting free s p)
+    (go_inviting (rules.invitation_of p.buffer) free f s time p (invitation_in_narrow (parted p.buffer.payload) p.buffer.trace.tag) light h) (go_accepting free s p light h)
 
 go_by_socket : (owner : Option (ℕ × ℕ)) (f : Facts) (s : State) (time : ℕ) (p : Arrival) → IsCut p → IsLightState s → IsRuled IsCut (rules.by_socket owner f s time p)
 go_by_socket None f s time p cut h = cut
 go_by_socket (Some owner) f s time p cut h =
-    either (rules.is_lacking s p) (discarded s why.Required p.buffer) (rules.opening owner.0 f s time p) (trashed s p.buffer cut.light h) (go_opening owner.0 f s time p cut.light h)
+    either IsTold (rules.is_lacking s p) (discarded s why.Required p.buffer) (rules.opening owner.0 f s time p) (trashed s p.buffer cut.light h) (go_opening owner.0 f s time p cut.light h)
 
 go_answer : (served : Served) (reply : List ℕ) (f : Facts) (s : State) (p : Arrival) → (is_checked p.head ≡ true → length reply ≤ 527) → length reply ≤ 531 → Arrives p → IsLightState s
     → IsTold (rules.by_answer served reply f s p)
@@ -317,37 +315,34 @@ heard_light f s time p are light h =
     go_on Arrives (rules.not_secured t p) (λ p. by_rest f t time p)
     (go_if Arrives (is_secured p.head) (discarded (counting t p.mark count.AuthErrors 1) why.Refused p.buffer) p (trashed (counting t p.mark count.AuthErrors 1) p.buffer l (counting_light t p.mark count.AuthErrors 1 g)) l) (λ p l.
     go_on IsCut (rules.without_checksum t p) (λ p. heard_at_port f t time p) (go_checksum (is_checked p.head) (payload_of p.buffer.payload) t p refl refl l g) (λ p c.
-    go_on IsCut (rules.of_no_connection t time p) (λ p. heard_at_socket f t time p) (go_by_connection (rules.slot_of t p) t time p c g) (λ p c.
+    go_on IsCut (rules.of_no_connection t time p) (λ p. heard_at_socket f t time p) (go_by_connection (rules.seat_for t p) t time p c g) (λ p c.
     go_on IsCut (rules.to_no_socket f t time p) (λ p. heard_elsewhere f t time p) (go_by_socket (rules.owner_for t p) f t time p c g) (λ p c.
     go_on IsCut (rules.not_reliable t p) (λ p. rules.by_service f t time p) (go_if IsCut (is_reliable p.head.flags.0) (discarded t why.NoSocket p.buffer) p (trashed t p.buffer c.light g) c) (λ p c.
     go_service f t time p are c g))))))
 
 -- ---- from an application
 
-go_on_connection : (reliable : Bool) (c : Connection) (f : Facts) (s : State) (app number time : ℕ) (b : Content) → IsData b → IsLightState s → IsTold (rules.on_connection reliable c f s app number time b)
-go_on_connection false c f s app number time b data' h = sent_light f s (rules.addressed f c (terms_at s.ports app number) b) (headed_light (rules.header_for f c (terms_at s.ports app number)) b (omega (arith, data'))) h
-go_on_connection true c f s app number time b data' h = ported_light s (submitting s.ports app number b time) (submitting_light s.ports app number b time data' h.ports) h
+go_on_connection : (c : Connection) (f : Facts) (s : State) (seat : Seat) (time : ℕ) (b : Content) → IsData b → IsLightState s → IsTold (rules.on_connection c (router f s) seat time b)
+go_on_connection c f s seat time b data' h =
+    either IsTold (is_reliable (terms_at s.ports seat).flags) (ported s (submitting s.ports seat b time)) (rules.sent_on c (router f s) seat b)
+    (ported_light s (submitting s.ports seat b time) (submitting_light s.ports seat b time data' h.ports) h)
+    (sent_light f s (rules.addressed f c (terms_at s.ports seat) b) (headed_light (rules.header_for f c (terms_at s.ports seat)) b (omega (arith, data'))) h)
 
-go_slot : (x : Slot) (f : Facts) (s : State) (app number time : ℕ) (b : Content) → IsData b → IsLightState s → IsTold (rules.by_slot x f s app number time b)
-go_slot slot.Free f s app number time b data' h = trashed s b (omega (arith, data')) h
-go_slot slot.Held f s app number time b data' h = trashed s b (omega (arith, data')) h
-go_slot (slot.Open c) f s app number time b data' h = go_on_connection (is_reliable (terms_at s.ports app number).flags) c f s app number time b data' h
+go_slot : (x : Slot) (f : Facts) (s : State) (seat : Seat) (time : ℕ) (b : Content) → IsData b → IsLightState s → IsTold (rules.by_slot x (router f s) seat time b)
+go_slot slot.Free f s seat time b data' h = trashed s b (omega (arith, data')) h
+go_slot slot.Held f s seat time b data' h = trashed s b (omega (arith, data')) h
+go_slot (slot.Open c) f s seat time b data' h = go_on_connection c f s seat time b data' h
 
-go_mark : (unmarked : Bool) (f : Facts) (s : State) (app mark time : ℕ) (b : Content) → IsData b → IsLightState s → IsTold (rules.by_mark unmarked f s app mark time b)
-go_mark true f s app mark time b data' h = sent_light f s b (omega (arith, data')) h
-go_mark false f s app mark time b data' h = go_slot (slot_at s.ports.conns app mark) f s app mark time b data' h
-
-bound_light : (can : Bool) (o : Option (ℕ × ℕ)) (p : PlainPorts) (app port need : ℕ) → ArePorts p → ArePorts (bind_by can o p app port need)
-bound_light false o p app port need h = h
-bound_light true (Some owner) p app port need h = h
-bound_light true None p app port need h = h
+go_mark : (unmarked : Bool) (f : Facts) (s : State) (seat : Seat) (time : ℕ) (b : Content) → IsData b → IsLightState s → IsTold (rules.by_mark unmarked (router f s) seat time b)
+go_mark true f s seat time b data' h = sent_light f s b (omega (arith, data')) h
+go_mark false f s seat time b data' h = go_slot (slot_at s.ports.conns seat) f s seat time b data' h
 
 go_request : (f : Facts) (s : State) (app time : ℕ) (n : Note) → AreFacts f → IsLightState s → IsTold (rules.requested f s app time n)
-go_request f s app time (note.Bind port need) are h = record { ports = bound_light (nat_lt port BINDABLE_PORTS) (owner_of s.ports.bound port) s.ports app port need h.ports; trash = h.trash; out = h.out; stats = h.stats }
+go_request f s app time (note.Bind port need) are h = record { ports = either ArePorts (nat_lt port BINDABLE_PORTS) _ _ (either ArePorts (is_some (owner_of s.ports.bound port)) _ _ h.ports h.ports) h.ports; trash = h.trash; out = h.out; stats = h.stats }
 go_request f s app time (note.Connect number dest port prio flags from) are h =
-    let r : Request = record { slot = number; dest = dest; port = port; prio = prio; flags = flags; from = from } in
-    ported_light s (connect (origin_of f) s.ports app r time) (connect_light (origin_of f) s.ports app r time are.window h.ports) h
-go_request f s app time (note.Close number) are h = ported_light s (close s.ports app number time) (close_light s.ports app number time h.ports) h
+    let r : Request = record { seat = seat app number; dest = dest; port = port; prio = prio; flags = flags; from = from } in
+    ported_light s (connect (flows_of f) s.ports r time) (connect_light (flows_of f) s.ports r time are.window h.ports) h
+go_request f s app time (note.Close number) are h = ported_light s (close s.ports (seat app number) time) (close_light s.ports (seat app number) time h.ports) h
 go_request f s app time note.Bound are h = h
 go_request f s app time (note.Connected number) are h = h
 go_request f s app time (note.Refused reason) are h = h
@@ -355,17 +350,17 @@ go_request f s app time (note.Closed number) are h = h
 go_request f s app time (note.Down number) are h = h
 
 pub served_light : (f : Facts) (s : State) (time app : ℕ) (i : ItemShown) → AreFacts f → item_bytes i ≤ 522 → IsLightState s → IsTold (rules.served f s time app i)
-served_light f s time app (item.Packet mark b) are data' h = go_mark (mark == UNMARKED) f s app mark time b data' h
+served_light f s time app (item.Packet mark b) are data' h = go_mark (mark == UNMARKED) f s (seat app mark) time b data' h
 served_light f s time app (item.Note n) are data' h = go_request f s app time n are h
 served_light f s time app (item.Frame x) are data' h = h
 
 -- ---- from the machine of a connection
 
-pub made_on_light : (x : Slot) (j : Job) (f : Facts) (s : State) (app number time : ℕ) (b : Content) → IsLight b → IsLightState s → IsTold (rules.made_on x j f s app number time b)
-made_on_light slot.Free j f s app number time b light h = trashed s b light h
-made_on_light slot.Held j f s app number time b light h = trashed s b light h
-made_on_light (slot.Open c) j f s app number time b light h =
-    let t = with_ports s (making j time app number s.ports) in
-    sent_light f t (rules.addressed f c (terms_at s.ports app number) (made_in j time app number b s.ports))
-    (headed_light (rules.header_for f c (terms_at s.ports app number)) (made_in j time app number b s.ports) (made_light j time app number b s.ports h.ports))
-    (record { ports = making_light j time app number s.ports h.ports; trash = h.trash; out = h.out; stats = h.stats })
+pub made_on_light : (x : Slot) (j : Job) (f : Facts) (s : State) (seat : Seat) (time : ℕ) (b : Content) → IsLight b → IsLightState s → IsTold (rules.made_on x (seat, j) (router f s) time b)
+made_on_light slot.Free j f s seat time b light h = trashed s b light h
+made_on_light slot.Held j f s seat time b light h = trashed s b light h
+made_on_light (slot.Open c) j f s seat time b light h =
+    let t = with_ports s (making j time seat s.ports) in
+    sent_light f t (rules.addressed f c (terms_at s.ports seat) (made_in j time seat b s.ports))
+    (headed_light (rules.header_for f c (terms_at s.ports seat)) (made_in j time seat b s.ports) (made_light j time seat b s.ports h.ports))
+    (record { ports = making_light j time seat s.ports h.ports; trash = h.trash; out = h.out; stats = h.stats })
