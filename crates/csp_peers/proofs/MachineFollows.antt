@@ -1,15 +1,17 @@
 -- How the machine of a reliable connection goes on: a machine with the number of one that was found earlier has delivered no less, and past the opening has the same peer.
 use Rattle.std.proofs.Common.{◌≡◌, ℕ, ◌+◌, ◌<◌, ◌≤◌, refl, sym, ap, ◌∙◌, arith, Option}
 use Rattle.std.specs.Prelude.{◌≢◌}
+use Rattle.csp_base.specs.Seat.{seat}
+use Rattle.csp_base.specs.declared.seat.Seat.{Seat}
 use Rattle.csp_base.specs.declared.traces.Tag.{Tag}
 use Rattle.csp_buffer.specs.PlainBuffer.{PlainBuffer}
-use Rattle.csp_ports.specs.declared.origin.Origin.{Origin}
+use Rattle.csp_ports.specs.declared.flows.OwnFlows.{OwnFlows}
 use Rattle.csp_rdp_header.specs.declared.head.RdpHead.{RdpHead}
 use Rattle.csp_rdp_window.specs.Receiving.{PlainRecv, confirmed, with_kept, without_next}
 use Rattle.csp_rdp.specs.Holding.{recv_rested, rested}
 use Rattle.csp_rdp.specs.Jobs.{admitting, closing, delivering, keeping_again, sent, ticked, without_delivery}
 use Rattle.csp_rdp.specs.Machine.{PlainRdp}
-use Rattle.csp_rdp.specs.Table.{after_packet as handed}
+use Rattle.csp_rdp.specs.Table.{after_packet}
 use Rattle.csp_rdp.specs.declared.answers.State.{State}
 use Rattle.csp_rdp.specs.declared.answers.State.TheVariants.{Closed, SynSent, SynRcvd, Open, CloseWait}
 use Rattle.csp_prefix.specs.Machines.{whatever}
@@ -76,54 +78,54 @@ advances-admitting b time r = along refl (omega arith) refl (λ e. (e, refl))
 
 -- ---- what is kept by these steps is kept beside what else is known
 
--- what is known of a machine, at an application and a slot, with the ordinal of its connection
+-- what is known of a machine, at its seat, with the ordinal of its connection
 abbrev pub OfMachine : Type 1
-OfMachine = Numbering → ℕ → ℕ → PlainRdp → ℕ → Type 0
+OfMachine = Numbering → Seat → PlainRdp → ℕ → Type 0
 
 -- other connections are made; it is born, with nothing delivered; it goes on
 pub record IsSteady (P : OfMachine) : Type 0 where
-  pub grows : (m later : Numbering) (app slot : ℕ) (r : PlainRdp) (ordinal : ℕ) → GoesOn m later → P m app slot r ordinal → P later app slot r ordinal
-  pub born : (m : Numbering) (app slot : ℕ) (r : PlainRdp) (ordinal : ℕ) → m.home m.made ≡ (app, slot, ordinal) → r.nth ≡ m.made → r.recv.cur ≡ 0 → P (record m { made = m.made + 1 }) app slot r ordinal
-  pub steps : (m : Numbering) (app slot : ℕ) (a b : PlainRdp) (ordinal : ℕ) → Advances a b → P m app slot a ordinal → P m app slot b ordinal
+  pub grows : (m later : Numbering) (s : Seat) (r : PlainRdp) (ordinal : ℕ) → GoesOn m later → P m s r ordinal → P later s r ordinal
+  pub born : (m : Numbering) (s : Seat) (r : PlainRdp) (ordinal : ℕ) → m.home m.made ≡ (s, ordinal) → r.nth ≡ m.made → r.recv.cur ≡ 0 → P (record m { made = m.made + 1 }) s r ordinal
+  pub steps : (m : Numbering) (s : Seat) (a b : PlainRdp) (ordinal : ℕ) → Advances a b → P m s a ordinal → P m s b ordinal
 
-pub steady-kept : (o : Origin) (Is : Numbering → ℕ → ℕ → Now → Type 0) (P : OfMachine) → IsSteady P → IsKept o whatever Is → IsKept o whatever (λ m app slot n. Is m app slot n × P m app slot n.machine n.ordinal)
+pub steady-kept : (o : OwnFlows) (Is : Numbering → Seat → Now → Type 0) (P : OfMachine) → IsSteady P → IsKept o whatever Is → IsKept o whatever (λ m seat n. Is m seat n × P m seat n.machine n.ordinal)
 steady-kept o Is P s k = record {
-  grows = λ m later app slot n g i. (k.grows m later app slot n g i.0, s.grows m later app slot n.machine n.ordinal g i.1);
-  connects = λ m app slot ordinal time c flags home asked. (k.connects m app slot ordinal time c flags home asked, s.born m app slot _ ordinal home refl refl);
-  accepts = λ m app slot ordinal time c flags h tag options home syn invited. (k.accepts m app slot ordinal time c flags h tag options home syn invited, s.born m app slot _ ordinal home refl refl);
-  early = λ m app slot n i e. k.early m app slot n i.0 e;
-  never = λ m app slot n i e. k.never m app slot n i.0 e;
-  rests = λ m app slot n i. (
-    k.rests m app slot n i.0,
-    s.steps m app slot n.machine (rested n.machine) n.ordinal (advances-same (recv_rested n.machine.state n.machine.recv) n.machine (rested n.machine) (rested-cur n.machine.state n.machine.recv) (goes-rested n.machine)) i.1,
+  grows = λ m later seat n g i. (k.grows m later seat n g i.0, s.grows m later seat n.machine n.ordinal g i.1);
+  connects = λ m seat ordinal time c flags home asked. (k.connects m seat ordinal time c flags home asked, s.born m seat _ ordinal home refl refl);
+  accepts = λ m seat ordinal time c flags h tag options home syn invited. (k.accepts m seat ordinal time c flags h tag options home syn invited, s.born m seat _ ordinal home refl refl);
+  early = λ m seat n i e. k.early m seat n i.0 e;
+  never = λ m seat n i e. k.never m seat n i.0 e;
+  rests = λ m seat n i. (
+    k.rests m seat n i.0,
+    s.steps m seat n.machine (rested n.machine) n.ordinal (advances-same (recv_rested n.machine.state n.machine.recv) n.machine (rested n.machine) (rested-cur n.machine.state n.machine.recv) (goes-rested n.machine)) i.1,
   );
-  ticks = λ m app slot n time i. (k.ticks m app slot n time i.0, s.steps m app slot n.machine (ticked time n.machine) n.ordinal (advances-ways n.machine (ticked time n.machine) (ways-ticked time n.machine)) i.1);
-  closes = λ m app slot n time i. (k.closes m app slot n time i.0, s.steps m app slot n.machine (closing time n.machine) n.ordinal (advances-ways n.machine (closing time n.machine) (ways-closing time n.machine)) i.1);
-  makes = λ m app slot n time j job i. (
-    k.makes m app slot n time j job i.0,
-    s.steps m app slot n.machine (sent j time n.machine) n.ordinal (advances-same n.machine.recv n.machine (sent j time n.machine) refl (goes-sent j time n.machine)) i.1,
+  ticks = λ m seat n time i. (k.ticks m seat n time i.0, s.steps m seat n.machine (ticked time n.machine) n.ordinal (advances-ways n.machine (ticked time n.machine) (ways-ticked time n.machine)) i.1);
+  closes = λ m seat n time i. (k.closes m seat n time i.0, s.steps m seat n.machine (closing time n.machine) n.ordinal (advances-ways n.machine (closing time n.machine) (ways-closing time n.machine)) i.1);
+  makes = λ m seat n time j job i. (
+    k.makes m seat n time j job i.0,
+    s.steps m seat n.machine (sent j time n.machine) n.ordinal (advances-same n.machine.recv n.machine (sent j time n.machine) refl (goes-sent j time n.machine)) i.1,
   );
-  hears = λ m app slot n h tag b time fed shut i. (
-    k.hears m app slot n h tag b time fed shut i.0,
-    s.steps m app slot n.machine (handed h tag b time n.machine) n.ordinal (advances-heard h tag b n.machine (handed h tag b time n.machine) (hears-handed h tag b time n.machine)) i.1,
+  hears = λ m seat n h tag b time fed shut i. (
+    k.hears m seat n h tag b time fed shut i.0,
+    s.steps m seat n.machine (after_packet h tag b time n.machine) n.ordinal (advances-heard h tag b n.machine (after_packet h tag b time n.machine) (hears-handed h tag b time n.machine)) i.1,
   );
-  opens = λ m app slot n h tag b time fed opening i. (
-    k.opens m app slot n h tag b time fed opening i.0,
-    s.steps m app slot n.machine (handed h tag b time n.machine) n.ordinal (advances-heard h tag b n.machine (handed h tag b time n.machine) (hears-handed h tag b time n.machine)) i.1,
+  opens = λ m seat n h tag b time fed opening i. (
+    k.opens m seat n h tag b time fed opening i.0,
+    s.steps m seat n.machine (after_packet h tag b time n.machine) n.ordinal (advances-heard h tag b n.machine (after_packet h tag b time n.machine) (hears-handed h tag b time n.machine)) i.1,
   );
-  admits = λ m app slot n b time is_open room waits i. (k.admits m app slot n b time is_open room waits i.0, s.steps m app slot n.machine (admitting b time n.machine) n.ordinal (advances-admitting b time n.machine) i.1);
-  delays = λ m app slot n payload is_open waits i. (k.delays m app slot n payload is_open waits i.0, i.1);
-  settles = λ m app slot n b time is_open room waits i. (k.settles m app slot n b time is_open room waits i.0, s.steps m app slot n.machine (admitting b time n.machine) n.ordinal (advances-admitting b time n.machine) i.1);
-  drops = λ m app slot n shut i. (k.drops m app slot n shut i.0, i.1);
-  delivers = λ m app slot n b time e i.
+  admits = λ m seat n b time is_open room waits i. (k.admits m seat n b time is_open room waits i.0, s.steps m seat n.machine (admitting b time n.machine) n.ordinal (advances-admitting b time n.machine) i.1);
+  delays = λ m seat n payload is_open waits i. (k.delays m seat n payload is_open waits i.0, i.1);
+  settles = λ m seat n b time is_open room waits i. (k.settles m seat n b time is_open room waits i.0, s.steps m seat n.machine (admitting b time n.machine) n.ordinal (advances-admitting b time n.machine) i.1);
+  drops = λ m seat n shut i. (k.drops m seat n shut i.0, i.1);
+  delivers = λ m seat n b time e i.
       let is_open = delivers-open n.machine.state n.machine b e in (
-        k.delivers m app slot n b time e i.0,
-        s.steps m app slot n.machine (delivering time (without_delivery n.machine)) n.ordinal (advances-delivers (confirmed (without_next n.machine.recv)) n.machine _ (omega arith) (delivers-both time n.machine is_open)) i.1,
+        k.delivers m seat n b time e i.0,
+        s.steps m seat n.machine (delivering time (without_delivery n.machine)) n.ordinal (advances-delivers (confirmed (without_next n.machine.recv)) n.machine _ (omega arith) (delivers-both time n.machine is_open)) i.1,
       );
-  keeps = λ m app slot n b c e same i.
+  keeps = λ m seat n b c e same i.
       let is_open = delivers-open n.machine.state n.machine b e in (
-        k.keeps m app slot n b c e same i.0,
-        s.steps m app slot n.machine (keeping_again c (without_delivery n.machine)) n.ordinal
+        k.keeps m seat n b c e same i.0,
+        s.steps m seat n.machine (keeping_again c (without_delivery n.machine)) n.ordinal
             (advances-past Open (with_kept (n.machine.recv.cur + 1) c (without_next n.machine.recv)) n.machine _ (omega arith) open-past (goes-kept-again c n.machine is_open)) i.1,
       );
 }
@@ -131,9 +133,9 @@ steady-kept o Is P s k = record {
 -- ---- each connection at home
 
 -- it has its number, at home where it is; and nothing is delivered while it opens
-pub record IsHomed (m : Numbering) (app slot : ℕ) (r : PlainRdp) (ordinal : ℕ) : Type 0 where
+pub record IsHomed (m : Numbering) (s : Seat) (r : PlainRdp) (ordinal : ℕ) : Type 0 where
   pub made : r.nth < m.made
-  pub home : m.home r.nth ≡ (app, slot, ordinal)
+  pub home : m.home r.nth ≡ (s, ordinal)
   pub early : r.state ≡ SynSent → r.recv.cur ≡ 0
 
 early-on : (a b : PlainRdp) → Advances a b → (a.state ≡ SynSent → a.recv.cur ≡ 0) → b.state ≡ SynSent → b.recv.cur ≡ 0
@@ -146,9 +148,9 @@ number-on a b (begins nth was now) = nth
 
 pub homed-steady : IsSteady IsHomed
 homed-steady = record {
-  grows = λ m later app slot r ordinal g i. record { made = let more = g.more in let low = i.made in omega (arith, more, low); home = g.same r.nth i.made ∙ i.home; early = i.early };
-  born = λ m app slot r ordinal home nth cur. record { made = omega (arith, nth); home = ap m.home nth ∙ home; early = λ e. cur };
-  steps = λ m app slot a b ordinal w i.
+  grows = λ m later s r ordinal g i. record { made = let more = g.more in let low = i.made in omega (arith, more, low); home = g.same r.nth i.made ∙ i.home; early = i.early };
+  born = λ m s r ordinal home nth cur. record { made = omega (arith, nth); home = ap m.home nth ∙ home; early = λ e. cur };
+  steps = λ m s a b ordinal w i.
       let same = number-on a b w in
       record { made = let low = i.made in omega (arith, same, low); home = ap m.home same ∙ i.home; early = early-on a b w i.early };
 }
@@ -177,24 +179,24 @@ follows-on old a b (begins nth was now) i =
     }
 
 -- the numbers that were made before are marked by a home that no slot is; where the number is that of the old machine, this one goes on from it
-pub record IsPast (apps : ℕ) (old : PlainRdp) (m : Numbering) (app slot : ℕ) (r : PlainRdp) (ordinal : ℕ) : Type 0 where
+pub record IsPast (apps : ℕ) (old : PlainRdp) (m : Numbering) (s : Seat) (r : PlainRdp) (ordinal : ℕ) : Type 0 where
   pub made : r.nth < m.made
-  pub follows : app < apps → m.home r.nth ≡ (apps, 0, 0) → r.nth ≡ old.nth → Follows old r
+  pub follows : s.app < apps → m.home r.nth ≡ (seat apps 0, 0) → r.nth ≡ old.nth → Follows old r
 
-born-here : (apps app slot ordinal : ℕ) → app < apps → ◌≡◌ {A = ℕ × ℕ × ℕ} (app, slot, ordinal) (apps, 0, 0) → ⊥
-born-here apps app slot ordinal few e = let same : app ≡ apps = ap (λ t. t.0) e in absurd (omega (arith, same, few))
+born-here : (apps : ℕ) (s : Seat) (ordinal : ℕ) → s.app < apps → ◌≡◌ {A = Seat × ℕ} (s, ordinal) (seat apps 0, 0) → ⊥
+born-here apps s ordinal few e = let same : s.app ≡ apps = ap (λ t. t.0.app) e in absurd (omega (arith, same, few))
 
 pub past-steady : (apps : ℕ) (old : PlainRdp) → IsSteady (IsPast apps old)
 past-steady apps old = record {
-  grows = λ m later app slot r ordinal g i. record {
+  grows = λ m later s r ordinal g i. record {
     made = let more = g.more in let low = i.made in omega (arith, more, low);
     follows = λ few marked same. i.follows few (sym (g.same r.nth i.made) ∙ marked) same;
   };
-  born = λ m app slot r ordinal home nth cur. record {
+  born = λ m s r ordinal home nth cur. record {
     made = omega (arith, nth);
-    follows = λ few marked same. absurd (born-here apps app slot ordinal few (sym home ∙ sym (ap m.home nth) ∙ marked));
+    follows = λ few marked same. absurd (born-here apps s ordinal few (sym home ∙ sym (ap m.home nth) ∙ marked));
   };
-  steps = λ m app slot a b ordinal w i.
+  steps = λ m s a b ordinal w i.
       let number = number-on a b w in
       record {
         made = let low = i.made in omega (arith, number, low);
@@ -204,23 +206,23 @@ past-steady apps old = record {
 
 -- ---- what is known wherever its home is
 
-pub anywhere-kept : (o : Origin) (Is : Numbering → ℕ → ℕ → Now → Type 0) → IsKept o whatever Is → IsKept o whatever (λ m app slot n. (home : ℕ → ℕ × ℕ × ℕ) × Is (record { made = m.made; home = home }) app slot n)
+pub anywhere-kept : (o : OwnFlows) (Is : Numbering → Seat → Now → Type 0) → IsKept o whatever Is → IsKept o whatever (λ m s n. (home : ℕ → Seat × ℕ) × Is (record { made = m.made; home = home }) s n)
 anywhere-kept o Is k = record {
-  grows = λ m later app slot n g i. (i.0, k.grows (record { made = m.made; home = i.0 }) (record { made = later.made; home = i.0 }) app slot n (record { more = g.more; same = λ number lt. refl }) i.1);
-  connects = λ m app slot ordinal time c flags home asked. (m.home, k.connects m app slot ordinal time c flags home asked);
-  accepts = λ m app slot ordinal time c flags h tag options home syn invited. (m.home, k.accepts m app slot ordinal time c flags h tag options home syn invited);
-  early = λ m app slot n i e. k.early (record { made = m.made; home = i.0 }) app slot n i.1 e;
-  never = λ m app slot n i e. k.never (record { made = m.made; home = i.0 }) app slot n i.1 e;
-  rests = λ m app slot n i. (i.0, k.rests (record { made = m.made; home = i.0 }) app slot n i.1);
-  ticks = λ m app slot n time i. (i.0, k.ticks (record { made = m.made; home = i.0 }) app slot n time i.1);
-  closes = λ m app slot n time i. (i.0, k.closes (record { made = m.made; home = i.0 }) app slot n time i.1);
-  makes = λ m app slot n time j job i. (i.0, k.makes (record { made = m.made; home = i.0 }) app slot n time j job i.1);
-  hears = λ m app slot n h tag b time fed shut i. (i.0, k.hears (record { made = m.made; home = i.0 }) app slot n h tag b time fed shut i.1);
-  opens = λ m app slot n h tag b time fed opening i. (i.0, k.opens (record { made = m.made; home = i.0 }) app slot n h tag b time fed opening i.1);
-  admits = λ m app slot n b time is_open room waits i. (i.0, k.admits (record { made = m.made; home = i.0 }) app slot n b time is_open room waits i.1);
-  delays = λ m app slot n payload is_open waits i. (i.0, k.delays (record { made = m.made; home = i.0 }) app slot n payload is_open waits i.1);
-  settles = λ m app slot n b time is_open room waits i. (i.0, k.settles (record { made = m.made; home = i.0 }) app slot n b time is_open room waits i.1);
-  drops = λ m app slot n shut i. (i.0, k.drops (record { made = m.made; home = i.0 }) app slot n shut i.1);
-  delivers = λ m app slot n b time e i. (i.0, k.delivers (record { made = m.made; home = i.0 }) app slot n b time e i.1);
-  keeps = λ m app slot n b c e same i. (i.0, k.keeps (record { made = m.made; home = i.0 }) app slot n b c e same i.1);
+  grows = λ m later s n g i. (i.0, k.grows (record { made = m.made; home = i.0 }) (record { made = later.made; home = i.0 }) s n (record { more = g.more; same = λ number lt. refl }) i.1);
+  connects = λ m s ordinal time c flags home asked. (m.home, k.connects m s ordinal time c flags home asked);
+  accepts = λ m s ordinal time c flags h tag options home syn invited. (m.home, k.accepts m s ordinal time c flags h tag options home syn invited);
+  early = λ m s n i e. k.early (record { made = m.made; home = i.0 }) s n i.1 e;
+  never = λ m s n i e. k.never (record { made = m.made; home = i.0 }) s n i.1 e;
+  rests = λ m s n i. (i.0, k.rests (record { made = m.made; home = i.0 }) s n i.1);
+  ticks = λ m s n time i. (i.0, k.ticks (record { made = m.made; home = i.0 }) s n time i.1);
+  closes = λ m s n time i. (i.0, k.closes (record { made = m.made; home = i.0 }) s n time i.1);
+  makes = λ m s n time j job i. (i.0, k.makes (record { made = m.made; home = i.0 }) s n time j job i.1);
+  hears = λ m s n h tag b time fed shut i. (i.0, k.hears (record { made = m.made; home = i.0 }) s n h tag b time fed shut i.1);
+  opens = λ m s n h tag b time fed opening i. (i.0, k.opens (record { made = m.made; home = i.0 }) s n h tag b time fed opening i.1);
+  admits = λ m s n b time is_open room waits i. (i.0, k.admits (record { made = m.made; home = i.0 }) s n b time is_open room waits i.1);
+  delays = λ m s n payload is_open waits i. (i.0, k.delays (record { made = m.made; home = i.0 }) s n payload is_open waits i.1);
+  settles = λ m s n b time is_open room waits i. (i.0, k.settles (record { made = m.made; home = i.0 }) s n b time is_open room waits i.1);
+  drops = λ m s n shut i. (i.0, k.drops (record { made = m.made; home = i.0 }) s n shut i.1);
+  delivers = λ m s n b time e i. (i.0, k.delivers (record { made = m.made; home = i.0 }) s n b time e i.1);
+  keeps = λ m s n b c e same i. (i.0, k.keeps (record { made = m.made; home = i.0 }) s n b c e same i.1);
 }

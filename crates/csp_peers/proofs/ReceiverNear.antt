@@ -6,17 +6,18 @@ use Rattle.std.specs.Option.{option_map}
 use Rattle.std.proofs.lemmas.Bool.{and_from, eq-eqb, lt-leb, not_from_true, or_from}
 use Rattle.std.proofs.lemmas.Int.{ints}
 use Rattle.std.proofs.lemmas.Option.{slice_get_within}
+use Rattle.csp_base.specs.declared.seat.Seat.{Seat}
 use Rattle.csp_base.specs.declared.traces.Tag.{Tag}
 use Rattle.csp_buffer.specs.PlainBuffer.{PlainBuffer}
 use Rattle.csp_conn.specs.declared.slot.Connection.{Connection}
-use Rattle.csp_ports.specs.declared.origin.Origin.{Origin}
+use Rattle.csp_ports.specs.declared.flows.OwnFlows.{OwnFlows}
 use Rattle.csp_record.specs.Stale.{is_far, is_stale_at, names}
 use Rattle.csp_rdp_header.specs.declared.head.RdpHead.{RdpHead}
 use Rattle.csp_rdp_window.specs.Receiving.{PlainRecv, confirmed, without_next}
 use Rattle.csp_rdp.specs.Holding.{recv_rested, rested}
 use Rattle.csp_rdp.specs.Jobs.{closing, delivering, delivery, keeping_again, sent, ticked, without_delivery}
 use Rattle.csp_rdp.specs.Machine.{PlainRdp, flow_of, una_of}
-use Rattle.csp_rdp.specs.Table.{after_packet as handed}
+use Rattle.csp_rdp.specs.Table.{after_packet}
 use Rattle.csp_rdp.specs.declared.answers.State.{State}
 use Rattle.csp_rdp.specs.declared.answers.State.TheVariants.{Closed, SynSent, SynRcvd, Open, CloseWait}
 use Rattle.csp_prefix.specs.Flows.{Flows, IsTrueOf}
@@ -150,17 +151,17 @@ module _ (flows : Flows) (R : Connection → ℕ × ℕ → Type 0) where
 -- ---- all of it
 
 -- where a connection has one peer at most, and neither the flows nor the packets' indices reach half of all numbers
-pub hearer-kept : (o : Origin) (flows : Flows) (R : Connection → ℕ × ℕ → Type 0) (bound : ℕ) → bound < half → HasOnePeer R → AreShort flows → IsKept o (of_peers flows R bound) (IsHearer flows R)
+pub hearer-kept : (o : OwnFlows) (flows : Flows) (R : Connection → ℕ × ℕ → Type 0) (bound : ℕ) → bound < half → HasOnePeer R → AreShort flows → IsKept o (of_peers flows R bound) (IsHearer flows R)
 hearer-kept o flows R bound few one short =
     let kept = receiver-kept o flows in
     record {
-      grows = λ m later app slot n g i. (kept.grows m later app slot n g i.0, i.1);
-      connects = λ m app slot ordinal time c flags home asked. (
-        kept.connects m app slot ordinal time c flags home tt,
+      grows = λ m later s n g i. (kept.grows m later s n g i.0, i.1);
+      connects = λ m s ordinal time c flags home asked. (
+        kept.connects m s ordinal time c flags home tt,
         record { right = λ flow f. absurd cc; near = λ flow f. omega arith; fresh = λ f. refl; alone = λ f. tt },
       );
-      accepts = λ m app slot ordinal time c flags h tag options home syn invited. (
-        kept.accepts m app slot ordinal time c flags h tag options home syn (invites flows R bound few one short c flags h tag invited),
+      accepts = λ m s ordinal time c flags h tag options home syn invited. (
+        kept.accepts m s ordinal time c flags h tag options home syn (invites flows R bound few one short c flags h tag invited),
         record {
           right = λ flow f. right-tag flows R c tag invited.0 invited.1 invited.3 flow f;
           near = λ flow f. omega arith;
@@ -168,37 +169,37 @@ hearer-kept o flows R bound few one short =
           alone = λ f. absurd (tagged flows R tag invited.0 invited.1 f);
         },
       );
-      early = λ m app slot n i e. kept.early m app slot n i.0 e;
-      never = λ m app slot n i e. kept.never m app slot n i.0 e;
-      rests = λ m app slot n i. (
-        kept.rests m app slot n i.0,
+      early = λ m s n i e. kept.early m s n i.0 e;
+      never = λ m s n i e. kept.never m s n i.0 e;
+      rests = λ m s n i. (
+        kept.rests m s n i.0,
         peered-goes flows R n.machine.state _ n (rested n.machine) (goes-rested n.machine) (rested-cur n.machine.state n.machine.recv) (λ a. a) i.1,
       );
-      ticks = λ m app slot n time i. (kept.ticks m app slot n time i.0, peered-ways flows R n (ticked time n.machine) (ways-ticked time n.machine) i.1);
-      closes = λ m app slot n time i. (kept.closes m app slot n time i.0, peered-ways flows R n (closing time n.machine) (ways-closing time n.machine) i.1);
-      makes = λ m app slot n time j job i. (
-        kept.makes m app slot n time j job i.0,
+      ticks = λ m s n time i. (kept.ticks m s n time i.0, peered-ways flows R n (ticked time n.machine) (ways-ticked time n.machine) i.1);
+      closes = λ m s n time i. (kept.closes m s n time i.0, peered-ways flows R n (closing time n.machine) (ways-closing time n.machine) i.1);
+      makes = λ m s n time j job i. (
+        kept.makes m s n time j job i.0,
         peered-goes flows R n.machine.state n.machine.recv n (sent j time n.machine) (goes-sent j time n.machine) refl (λ a. a) i.1,
       );
-      hears = λ m app slot n h tag b time fed shut i. (
-        kept.hears m app slot n h tag b time (feeds flows R bound few one short n h tag b.picture.payload fed i.1) shut i.0,
-        peered-heard flows R h tag b n (handed h tag b time n.machine) fed.0 fed.1 fed.3 (hears-handed h tag b time n.machine) i.1,
+      hears = λ m s n h tag b time fed shut i. (
+        kept.hears m s n h tag b time (feeds flows R bound few one short n h tag b.picture.payload fed i.1) shut i.0,
+        peered-heard flows R h tag b n (after_packet h tag b time n.machine) fed.0 fed.1 fed.3 (hears-handed h tag b time n.machine) i.1,
       );
-      opens = λ m app slot n h tag b time fed opening i. (
-        kept.opens m app slot n h tag b time (feeds flows R bound few one short n h tag b.picture.payload fed i.1) opening i.0,
-        peered-opened flows R (with_machine (handed h tag b time n.machine) n)
-            (peered-heard flows R h tag b n (handed h tag b time n.machine) fed.0 fed.1 fed.3 (hears-handed h tag b time n.machine) i.1),
+      opens = λ m s n h tag b time fed opening i. (
+        kept.opens m s n h tag b time (feeds flows R bound few one short n h tag b.picture.payload fed i.1) opening i.0,
+        peered-opened flows R (with_machine (after_packet h tag b time n.machine) n)
+            (peered-heard flows R h tag b n (after_packet h tag b time n.machine) fed.0 fed.1 fed.3 (hears-handed h tag b time n.machine) i.1),
       );
-      admits = λ m app slot n b time is_open room waits i. (kept.admits m app slot n b time is_open room waits i.0, record { right = i.1.right; near = i.1.near; fresh = i.1.fresh; alone = i.1.alone });
-      delays = λ m app slot n payload is_open waits i. (kept.delays m app slot n payload is_open waits i.0, record { right = i.1.right; near = i.1.near; fresh = i.1.fresh; alone = i.1.alone });
-      settles = λ m app slot n b time is_open room waits i. (kept.settles m app slot n b time is_open room waits i.0, record { right = i.1.right; near = i.1.near; fresh = i.1.fresh; alone = i.1.alone });
-      drops = λ m app slot n shut i. (kept.drops m app slot n shut i.0, record { right = i.1.right; near = i.1.near; fresh = i.1.fresh; alone = i.1.alone });
-      delivers = λ m app slot n b time found i. (
-        kept.delivers m app slot n b time found i.0,
+      admits = λ m s n b time is_open room waits i. (kept.admits m s n b time is_open room waits i.0, record { right = i.1.right; near = i.1.near; fresh = i.1.fresh; alone = i.1.alone });
+      delays = λ m s n payload is_open waits i. (kept.delays m s n payload is_open waits i.0, record { right = i.1.right; near = i.1.near; fresh = i.1.fresh; alone = i.1.alone });
+      settles = λ m s n b time is_open room waits i. (kept.settles m s n b time is_open room waits i.0, record { right = i.1.right; near = i.1.near; fresh = i.1.fresh; alone = i.1.alone });
+      drops = λ m s n shut i. (kept.drops m s n shut i.0, record { right = i.1.right; near = i.1.near; fresh = i.1.fresh; alone = i.1.alone });
+      delivers = λ m s n b time found i. (
+        kept.delivers m s n b time found i.0,
         peered-delivers flows R n b found i.0 i.1 (delivering time (without_delivery n.machine)) (delivers-both time n.machine (delivers-open n.machine.state n.machine b found)),
       );
-      keeps = λ m app slot n b c found same i. (
-        kept.keeps m app slot n b c found same i.0,
+      keeps = λ m s n b c found same i. (
+        kept.keeps m s n b c found same i.0,
         peered-goes flows R Open _ n (keeping_again c (without_delivery n.machine)) (goes-kept-again c n.machine (delivers-open n.machine.state n.machine b found)) refl
             (λ a. alone-open n.machine.state (delivers-open n.machine.state n.machine b found) a) i.1,
       );
@@ -207,8 +208,8 @@ hearer-kept o flows R bound few one short =
 -- ---- no packet of such a flow is stale
 
 -- how many were delivered is less than half of all numbers, with a peer or without
-pub hearer-cur : (flows : Flows) (R : Connection → ℕ × ℕ → Type 0) → AreShort flows → (m : Numbering) (app slot : ℕ) (n : Now) → IsHearer flows R m app slot n → n.machine.recv.cur < half
-hearer-cur flows R short m app slot n i = go n.machine.peer refl
+pub hearer-cur : (flows : Flows) (R : Connection → ℕ × ℕ → Type 0) → AreShort flows → (m : Numbering) (s : Seat) (n : Now) → IsHearer flows R m s n → n.machine.recv.cur < half
+hearer-cur flows R short m s n i = go n.machine.peer refl
   where
     go : (peer : Option (ℕ × ℕ)) → n.machine.peer ≡ peer → n.machine.recv.cur < half
     go None e = let none = i.1.fresh e in omega (arith, none)
@@ -228,8 +229,8 @@ not-stale-from flows R bound few one short n t i right le ack una (Some flow) e 
     (near-each t.ack (una_of n.machine) ack una)
 
 -- on such a connection
-pub not-stale : (flows : Flows) (R : Connection → ℕ × ℕ → Type 0) (bound : ℕ) → bound < half → HasOnePeer R → AreShort flows → (m : Numbering) (app slot : ℕ) (n : Now) (tag : Option Tag) (t : Tag)
-    → IsHearer flows R m app slot n → tag ≡ Some t → R n.connection (flow_of t) → t.index ≤ bound → t.ack < half → una_of n.machine < half
+pub not-stale : (flows : Flows) (R : Connection → ℕ × ℕ → Type 0) (bound : ℕ) → bound < half → HasOnePeer R → AreShort flows → (m : Numbering) (s : Seat) (n : Now) (tag : Option Tag) (t : Tag)
+    → IsHearer flows R m s n → tag ≡ Some t → R n.connection (flow_of t) → t.index ≤ bound → t.ack < half → una_of n.machine < half
     → is_stale_at n.machine.peer tag n.machine.recv.cur (una_of n.machine) ≡ false
-not-stale flows R bound few one short m app slot n tag t i e right le ack una =
+not-stale flows R bound few one short m s n tag t i e right le ack una =
     subst (λ o. is_stale_at n.machine.peer o n.machine.recv.cur (una_of n.machine) ≡ false) (sym e) (not-stale-from flows R bound few one short n t i.1 right le ack una n.machine.peer refl)

@@ -3,6 +3,7 @@
 use Rattle.std.proofs.Common.{◌≡◌, ℕ, ◌<◌, ◌≤◌, Bool, true, false, Option, List, [], ◌∷◌, length, refl, sym, ap, ◌∙◌, subst, arith}
 use Rattle.std.specs.Prelude.{if◌then◌else◌}
 use Rattle.std.specs.List.{AllByRecursion}
+use Rattle.csp_base.specs.declared.seat.Seat.{Seat}
 use Rattle.csp_buffer.specs.Content.{Content}
 use Rattle.csp_conn.specs.declared.slot.Connection.{Connection}
 use Rattle.csp_header.specs.Word.{header_at}
@@ -20,7 +21,7 @@ use Rattle.csp_ports.specs.Steps.{timed as ports_timed}
 use Rattle.csp_rdp.specs.Machine.{PlainRdp, flow_of, una_of}
 use Rattle.csp_record.specs.Stale.{is_stale}
 use Rattle.csp_scene.proofs.Public.{AllByRecursion-map}
-use Rattle.csp_stack.specs.Router.{Facts, Leaving, State, origin_of}
+use Rattle.csp_stack.specs.Router.{Facts, Leaving, State, flows_of}
 use Rattle.csp_stack.specs.Rules.{connection_of}
 use Rattle.csp_stack.specs.Turn.{asked_at, asks_at, timed, told_at}
 use Rattle.csp_prefix.specs.Flows.{Flows}
@@ -50,27 +51,27 @@ module _ (f : Facts) (es : List Entry) (top bound : ℕ) (flows : Flows) (R : Co
   the_is_aim = peer_is_aim f es top bound flows R hears few allows within one flows_short far known
 
   -- what is known of the connection on a slot that was found
-  known_there : (h : Past) (p : PlainPorts) (o : Option Leaving) (w : Stands the_aim f h p o) (c : Connection) (app slot : ℕ) → IsFound p.conns c app slot → is_reliable (terms_at p app slot).flags ≡ true
-      → IsPeer top flows R (origin_of f) w.numbering app slot (now_at p w.books app slot)
-  known_there h p o w c app slot x kind =
-      let there = w.good.slots app slot x.app_there x.slot_there in
-      let used = subst (λ q. IsSlot the_aim.is q (terms_at p app slot) w.numbering app slot (now_at p w.books app slot)) x.is_open there in
-      subst (λ r. IsInUse the_aim.is r w.numbering app slot (now_at p w.books app slot)) kind used
+  known_there : (h : Past) (p : PlainPorts) (o : Option Leaving) (w : Stands the_aim f h p o) (c : Connection) (s : Seat) → IsFound p.conns c s → is_reliable (terms_at p s).flags ≡ true
+      → IsPeer top flows R (flows_of f) w.numbering s (now_at p w.books s)
+  known_there h p o w c s x kind =
+      let there = w.good.slots s x.app_there x.slot_there in
+      let used = subst (λ q. IsSlot the_aim.is q (terms_at p s) w.numbering s (now_at p w.books s)) x.is_open there in
+      subst (λ r. IsInUse the_aim.is r w.numbering s (now_at p w.books s)) kind used
 
   -- what is handed to it is not stale
   handing_fresh : (h : Past) (p : PlainPorts) (o : Option Leaving) (w : Stands the_aim f h p o) (b : Content) (e : Event) → IsPart h (past es) → hears b → IsHanding f p b e → is_stale e ≡ false
   handing_fresh h p o w b e part heard x =
-      let found = found_there p.conns (connection_of (header_at b.header)) (x.app, x.slot) w.good.conns x.at in
-      let n : Now = now_at p w.books x.app x.slot in
-      let is : IsPeer top flows R (origin_of f) w.numbering x.app x.slot n = known_there h p o w (connection_of (header_at b.header)) x.app x.slot found x.kind in
+      let found = found_there p.conns (connection_of (header_at b.header)) x.seat w.good.conns x.at in
+      let n : Now = now_at p w.books x.seat in
+      let is : IsPeer top flows R (flows_of f) w.numbering x.seat n = known_there h p o w (connection_of (header_at b.header)) x.seat found x.kind in
       let fed = fed_by f es top bound flows R hears few allows within one flows_short far known b x.bytes x.parts heard x.read in
-      let most = book_short f es top bound some short _ h w.numbering w.books x.app x.slot n part w.tells refl is.0 in
+      let most = book_short f es top bound some short _ h w.numbering w.books x.seat n part w.tells refl is.0 in
       let admitted = is.0.1.admitted in
       let una = una_within n.machine is.0.1.order in
       let ack = acks b heard fed.0 fed.1 in
       let same : connection_of (header_at b.header) ≡ n.connection = sym (ap connection_in found.is_open) in
       subst (λ v. is_stale v ≡ false) (sym x.told)
-      (not-stale flows R bound within one flows_short w.numbering x.app x.slot n b.trace.tag fed.0 is.1 fed.1 (subst (λ c. R c (flow_of fed.0)) same fed.3) fed.4 (omega (arith, ack, within)) (omega (arith, una, admitted, most, within)))
+      (not-stale flows R bound within one flows_short w.numbering x.seat n b.trace.tag fed.0 is.1 fed.1 (subst (λ c. R c (flow_of fed.0)) same fed.3) fed.4 (omega (arith, ack, within)) (omega (arith, una, admitted, most, within)))
 
   -- nor does any other event tell of a stale copy
   event_fresh : (h : Past) (p : PlainPorts) (o : Option Leaving) (w : Stands the_aim f h p o) (x : OpShown) (a : AnswerShown) (e : Event) → IsPart h (past es) → HearsSo the_aim x a → TellsAt f p x a e → is_stale e ≡ false
@@ -91,5 +92,5 @@ module _ (f : Facts) (es : List Entry) (top bound : ℕ) (flows : Flows) (R : Co
       let old = timed_part the_aim f (past es) the_is_aim h s e.time e.answer w (subst (λ x. IsPart x (past es)) same here) in
       let fresh = AllByRecursion-map (TellsAt f (timed s e.time).ports e.op e.answer) (λ v. is_stale v ≡ false) e.events.items
       (λ x tells. event_fresh (with_openings (ports_timed e.time s.ports).events h) (timed s e.time).ports (timed s e.time).out v e.op e.answer x old come.0.hears tells) (entry_tells (record { facts = f; state = s }) e step) in
-      let done = step_stands the_aim f (past es) the_is_aim e h s (λ app slot j few low owed. tt) step come.0 here w in
+      let done = step_stands the_aim f (past es) the_is_aim e h s (λ seat j few low owed. tt) step come.0 here w in
       (fresh, run_fresh rest e.time (past_with e h) (told_at f (asked_at f s e.time) e.time e.answer).state run.2 come.1 part done.0)

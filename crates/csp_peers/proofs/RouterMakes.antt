@@ -6,6 +6,8 @@ use Rattle.std.proofs.lemmas.Bool.{eqb-true}
 use Rattle.std.specs.List.{range_with_len}
 use Rattle.std.specs.Option.{unwrap_or}
 use Rattle.std.proofs.lemmas.Nat.{and_le_r}
+use Rattle.csp_base.specs.Seat.{seat}
+use Rattle.csp_base.specs.declared.seat.Seat.{Seat}
 use Rattle.csp_base.specs.declared.traces.Tag.{Tag}
 use Rattle.csp_buffer.specs.Content.{Content}
 use Rattle.csp_conn.specs.Circle.{circle_after, port_after}
@@ -31,7 +33,7 @@ use Rattle.csp_record.specs.Payloads.{sent}
 use Rattle.csp_record.specs.declared.connections.Opening.{Opening}
 use Rattle.csp_ports.specs.Asking.{is_reliable}
 use Rattle.csp_stack.specs.Readings.{broadcast, is_checked}
-use Rattle.csp_stack.specs.Router.{Facts, origin_of}
+use Rattle.csp_stack.specs.Router.{Facts, flows_of}
 use Rattle.csp_stack.specs.Rules.{addressed, answer_flags, connection_of, header_for}
 use Rattle.csp_prefix.specs.Machines.{IsOver}
 use Rattle.csp_prefix.specs.Ports.{Books, IsAskedSo, connection_in, now_at}
@@ -57,7 +59,7 @@ pub record IsOwn (f : Facts) (top bound : ℕ) (b : Content) : Type 0 where
 
 -- fewer packets were sent on each flow of a log
 abbrev pub AreShort : ℕ → List Entry → Type 0
-AreShort bound es = (app nth : ℕ) (x : Opening) → IsFlowOf es app nth x → length (sent app x.slot x.ordinal es) + 1 ≤ bound
+AreShort bound es = (app nth : ℕ) (x : Opening) → IsFlowOf es app nth x → length (sent (seat app x.slot) x.ordinal es) + 1 ≤ bound
 
 -- an address that fits into a header, and is not that of broadcast, is below a bound
 abbrev pub AllowsOne : ℕ → Type 0
@@ -87,25 +89,25 @@ beginning_short : {X : Type 0} (xs ys : List X) (bound : ℕ) → IsBeginning xs
 beginning_short xs ys bound b few = let l = length-append xs b.rest in let same = ap length b.whole in omega (arith, few, l, same)
 
 module _ (f : Facts) (es : List Entry) (top bound : ℕ) (some : 1 ≤ bound) (short : AreShort bound es) where
-  pub book_short : (Over : Numbering → ℕ → Opening → List (List ℕ) → Type 0) (h : Past) (m : Numbering) (books : Books) (app slot : ℕ) (n : Now) → IsPart h (past es) → Tells Over f.apps m h books → n.book ≡ books app slot
-      → IsMaker top (origin_of f) m app slot n → length n.book.sent + 1 ≤ bound
-  book_short Over h m books app slot n part tells same is =
-      by n.machine.was_open (sends-over (origin_of f) m app slot n.machine.state n is.0) refl
+  pub book_short : (Over : Numbering → ℕ → Opening → List (List ℕ) → Type 0) (h : Past) (m : Numbering) (books : Books) (s : Seat) (n : Now) → IsPart h (past es) → Tells Over f.apps m h books → n.book ≡ books s
+      → IsMaker top (flows_of f) m s n → length n.book.sent + 1 ≤ bound
+  book_short Over h m books s n part tells same is =
+      by n.machine.was_open (sends-over (flows_of f) m s n.machine.state n is.0) refl
     where
-      by : (was : Bool) → IsOver m app slot n → n.machine.was_open ≡ was → length n.book.sent + 1 ≤ bound
+      by : (was : Bool) → IsOver m s n → n.machine.was_open ≡ was → length n.book.sent + 1 ≤ bound
       by false over e = let none = ap (λ (b : Book). length b.sent) (over.1 e).book in omega (arith, some, none)
       by true over e =
-          let opened : (books app slot).opened ≡ Some (Some n.machine.nth, n.machine.peer) = ap (λ (b : Book). b.opened) (sym same) ∙ (over.0 e).opened in
-          let x : Opening = opening_on slot (h.ends app slot) (Some n.machine.nth, n.machine.peer) in
-          let flow = opening_flow es h app n.machine.nth x part (tells.back app slot (Some n.machine.nth, n.machine.peer) opened) refl in
-          let told : n.book.sent ≡ h.sent app slot (h.ends app slot) = ap (λ (b : Book). b.sent) same ∙ tells.sent app slot in
+          let opened : (books s).opened ≡ Some (Some n.machine.nth, n.machine.peer) = ap (λ (b : Book). b.opened) (sym same) ∙ (over.0 e).opened in
+          let x : Opening = opening_on s (h.ends s) (Some n.machine.nth, n.machine.peer) in
+          let flow = opening_flow es h s.app n.machine.nth x part (tells.back s (Some n.machine.nth, n.machine.peer) opened) refl in
+          let told : n.book.sent ≡ h.sent s (h.ends s) = ap (λ (b : Book). b.sent) same ∙ tells.sent s in
           subst (λ xs. length xs + 1 ≤ bound) (sym told)
-          (beginning_short (h.sent app slot (h.ends app slot)) ((past es).sent app slot (h.ends app slot)) bound (part.sent app slot (h.ends app slot))
-          (subst (λ xs. length xs + 1 ≤ bound) (sym (past_sent es app slot (h.ends app slot))) (short app n.machine.nth x flow)))
+          (beginning_short (h.sent s (h.ends s)) ((past es).sent s (h.ends s)) bound (part.sent s (h.ends s))
+          (subst (λ xs. length xs + 1 ≤ bound) (sym (past_sent es s (h.ends s))) (short s.app n.machine.nth x flow)))
 
 -- ---- the header of a packet that is made
-in_range : (f : Facts) (c : Connection) (p : PlainPorts) (app slot top : ℕ) → f.addr < 32 → top ≤ 32 → IsAddressable top c (terms_at p app slot).flags → IsInRange (header_for f c (terms_at p app slot))
-in_range f c p app slot top low few is = record {
+in_range : (f : Facts) (c : Connection) (p : PlainPorts) (s : Seat) (top : ℕ) → f.addr < 32 → top ≤ 32 → IsAddressable top c (terms_at p s).flags → IsInRange (header_for f c (terms_at p s))
+in_range f c p s top low few is = record {
   src = low;
   dst = let one = is.peer in omega (arith, few, one);
   dport = is.peer_port;
@@ -114,26 +116,26 @@ in_range f c p app slot top low few is = record {
 }
 
 module _ (f : Facts) (es : List Entry) (top bound : ℕ) (low : f.addr < 32) (few : top ≤ 32) (some : 1 ≤ bound) (short : AreShort bound es) where
-  makes_own : (Over : Numbering → ℕ → Opening → List (List ℕ) → Type 0) (h : Past) (m : Numbering) (books : Books) (p : PlainPorts) (app slot time : ℕ) (j : Job) (b : Content) (c : Connection) → IsPart h (past es) → Tells Over f.apps m h books
-      → slot_at p.conns app slot ≡ has.Open c → IsMaker top (origin_of f) m app slot (now_at p books app slot) → job_of time (machine_at p app slot) ≡ Some j
-      → IsOwn f top bound (addressed f c (terms_at p app slot) (made_in j time app slot b p))
-  makes_own Over h m books p app slot time j b c part tells there is job =
-      let r : PlainRdp = machine_at p app slot in
+  makes_own : (Over : Numbering → ℕ → Opening → List (List ℕ) → Type 0) (h : Past) (m : Numbering) (books : Books) (p : PlainPorts) (seat : Seat) (time : ℕ) (j : Job) (b : Content) (c : Connection) → IsPart h (past es) → Tells Over f.apps m h books
+      → slot_at p.conns seat ≡ has.Open c → IsMaker top (flows_of f) m seat (now_at p books seat) → job_of time (machine_at p seat) ≡ Some j
+      → IsOwn f top bound (addressed f c (terms_at p seat) (made_in j time seat b p))
+  makes_own Over h m books p seat time j b c part tells there is job =
+      let r : PlainRdp = machine_at p seat in
       let s : Says = says j time r in
-      let x : Content = made_in j time app slot b p in
-      let hdr : Header = header_for f c (terms_at p app slot) in
+      let x : Content = made_in j time seat b p in
+      let hdr : Header = header_for f c (terms_at p seat) in
       let traced = ap (λ t. t.tag) (protected_trace (is_checked hdr) x) in
-      let with_whom : IsAddressable top c (terms_at p app slot).flags = subst (λ o. IsAddressable top (connection_in o) (terms_at p app slot).flags) there is.1.addressable in
-      let head : header_at (word_of hdr) ≡ hdr = header_at-word_of hdr (in_range f c p app slot top low few with_whom) in
-      let far = book_short f es top bound some short Over h m books app slot (now_at p books app slot) part tells refl is in
-      let index = (maker-says top (origin_of f) m app slot (now_at p books app slot) time j is job).index in
+      let with_whom : IsAddressable top c (terms_at p seat).flags = subst (λ o. IsAddressable top (connection_in o) (terms_at p seat).flags) there is.1.addressable in
+      let head : header_at (word_of hdr) ≡ hdr = header_at-word_of hdr (in_range f c p seat top low few with_whom) in
+      let far = book_short f es top bound some short Over h m books seat (now_at p books seat) part tells refl is in
+      let index = (maker-says top (flows_of f) m seat (now_at p books seat) time j is job).index in
       let admitted = is.1.admitted in
       record {
         tagged = λ e. (tag_for s r, traced);
         made = λ tag e.
             let tags : ◌≡◌ {A = Option Tag} (Some (tag_for s r)) (Some tag) = sym traced ∙ e in
             let tag_is : tag_for s r ≡ tag = ap (λ (o : Option Tag). unwrap_or o (tag_for s r)) tags in
-            subst (λ t. IsMade f top bound (addressed f c (terms_at p app slot) x) t) tag_is (record {
+            subst (λ t. IsMade f top bound (addressed f c (terms_at p seat) x) t) tag_is (record {
               src = ap (λ (k : Header). k.src) head;
               dst = let same = ap (λ (k : Header). k.dst) head in let one = with_whom.peer in omega (arith, same, one);
               node = is.1.node;
@@ -144,7 +146,7 @@ module _ (f : Facts) (es : List Entry) (top bound : ℕ) (low : f.addr < 32) (fe
 -- ---- what is to be known of a node's connections, and of its packets
 abbrev pub maker_aim : Facts → (top bound : ℕ) → (Content → Type 0) → Aim
 maker_aim f top bound hears = record {
-  is = IsMaker top (origin_of f);
+  is = IsMaker top (flows_of f);
   coming = addressable top;
   over = λ m app x down. ⊤;
   good = IsOwn f top bound;
@@ -171,7 +173,7 @@ heard_addressable top b from reliable = record {
 }
 
 -- and one that an application asks for
-pub asked_addressable : (top : ℕ) (p : PlainPorts) (r : Request) → AllowsOne top → ComesWell (item.Note (note.Connect r.slot r.dest r.port r.prio r.flags r.from)) → IsAskedSo (addressable top) p r
+pub asked_addressable : (top : ℕ) (p : PlainPorts) (r : Request) → AllowsOne top → ComesWell (item.Note (note.Connect r.seat.slot r.dest r.port r.prio r.flags r.from)) → IsAskedSo (addressable top) p r
 asked_addressable top p r allows comes reliable own chosen = record {
   peer = allows r.dest comes.0 (comes.3 reliable);
   peer_port = comes.1;
@@ -181,15 +183,15 @@ asked_addressable top p r allows comes reliable own chosen = record {
 
 pub maker_is_aim : (f : Facts) (es : List Entry) (top bound : ℕ) (hears : Content → Type 0) → f.addr < 32 → top ≤ 32 → AllowsOne top → 1 ≤ bound → AreShort bound es → ((b : Content) → hears b → IsFromBelow top b) → IsAim (maker_aim f top bound hears) f (past es)
 maker_is_aim f es top bound hears low few allows some short from = record {
-  ports = ports_kept (origin_of f) (addressable top) (IsMaker top (origin_of f)) (maker-kept top (origin_of f));
-  ended = λ m app slot n how is e. tt;
-  plain = λ m app slot ordinal down. tt;
+  ports = ports_kept (flows_of f) (addressable top) (IsMaker top (flows_of f)) (maker-kept top (flows_of f));
+  ended = λ m s n how is e. tt;
+  plain = λ m s ordinal down. tt;
   grows = λ m m' app x down on over. tt;
-  never_plain = λ m app slot n is e. sender_not n.machine.state (origin_of f) m app slot n is.0 e;
+  never_plain = λ m s n is e. sender_not n.machine.state (flows_of f) m s n is.0 e;
   unmarked = λ mark b e none comes. own_plain f top bound b none (comes (eqb-true mark UNMARKED e));
   unreliable = λ b none plain. own_plain f top bound b none plain;
   wishes = λ p r comes. asked_addressable top p r allows comes;
-  makes = λ h m books p app slot time j b c part tells o there is found job. makes_own f es top bound low few some short _ h m books p app slot time j b c part tells there is job;
+  makes = λ h m books p s time j b c part tells o there is found job. makes_own f es top bound low few some short _ h m books p s time j b c part tells there is job;
   feeds = λ b payload r read heard known fresh. tt;
   asks = λ b payload read heard known syn. heard_addressable top b (from b heard) known.reliable;
 }

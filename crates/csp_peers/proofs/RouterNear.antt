@@ -3,6 +3,7 @@
 use Rattle.std.proofs.Common.{◌≡◌, ℕ, ◌<◌, ◌≤◌, ◌==◌, ◌||◌, Bool, true, false, Option, None, Some, List, length, refl, sym, ap, ◌∙◌, subst, arith}
 use Rattle.std.specs.Prelude.{⊤}
 use Rattle.std.specs.Option.{unwrap_or}
+use Rattle.csp_base.specs.declared.seat.Seat.{Seat}
 use Rattle.csp_base.specs.declared.traces.Tag.{Tag}
 use Rattle.csp_buffer.specs.Content.{Content}
 use Rattle.csp_conn.specs.declared.slot.Connection.{Connection}
@@ -10,13 +11,13 @@ use Rattle.csp_header.specs.Word.{header_at}
 use Rattle.csp_log.specs.declared.entry.Entry.{Entry}
 use Rattle.csp_ports.specs.PlainPorts.{PlainPorts, machine_at, terms_at}
 use Rattle.csp_ports.specs.Tasks.{made_in}
-use Rattle.csp_ports.specs.declared.origin.Origin.{Origin}
+use Rattle.csp_ports.specs.declared.flows.OwnFlows.{OwnFlows}
 use Rattle.csp_rdp.specs.Jobs.{Says, job_of, says, tag_for}
 use Rattle.csp_rdp.specs.Machine.{PlainRdp, flow_of}
 use Rattle.csp_rdp.specs.declared.jobs.Job.{Job}
 use Rattle.csp_ports.specs.Asking.{is_reliable}
 use Rattle.csp_stack.specs.Readings.{is_checked}
-use Rattle.csp_stack.specs.Router.{Facts, origin_of}
+use Rattle.csp_stack.specs.Router.{Facts, flows_of}
 use Rattle.csp_stack.specs.Rules.{addressed, connection_of, header_for}
 use Rattle.std.proofs.lemmas.Bool.{eqb-true}
 use Rattle.csp_rdp_header.specs.declared.head.RdpHead.{RdpHead}
@@ -39,26 +40,26 @@ both_come C D = record {
   asked = λ c flags. C.asked c flags × D.asked c flags;
 }
 
-pub both-kept : (o : Origin) (C D : Coming) (Is Js : Numbering → ℕ → ℕ → Now → Type 0) → IsKept o C Is → IsKept o D Js → IsKept o (both_come C D) (λ m app slot n. Is m app slot n × Js m app slot n)
+pub both-kept : (o : OwnFlows) (C D : Coming) (Is Js : Numbering → Seat → Now → Type 0) → IsKept o C Is → IsKept o D Js → IsKept o (both_come C D) (λ m s n. Is m s n × Js m s n)
 both-kept o C D Is Js k l = record {
-  grows = λ m later app slot n g i. (k.grows m later app slot n g i.0, l.grows m later app slot n g i.1);
-  connects = λ m app slot ordinal time c flags home asked. (k.connects m app slot ordinal time c flags home asked.0, l.connects m app slot ordinal time c flags home asked.1);
-  accepts = λ m app slot ordinal time c flags h tag options home syn invited.
-      (k.accepts m app slot ordinal time c flags h tag options home syn invited.0, l.accepts m app slot ordinal time c flags h tag options home syn invited.1);
-  early = λ m app slot n i e. k.early m app slot n i.0 e;
-  never = λ m app slot n i e. k.never m app slot n i.0 e;
-  rests = λ m app slot n i. (k.rests m app slot n i.0, l.rests m app slot n i.1);
-  ticks = λ m app slot n time i. (k.ticks m app slot n time i.0, l.ticks m app slot n time i.1);
-  closes = λ m app slot n time i. (k.closes m app slot n time i.0, l.closes m app slot n time i.1);
-  makes = λ m app slot n time j job i. (k.makes m app slot n time j job i.0, l.makes m app slot n time j job i.1);
-  hears = λ m app slot n h tag b time fed shut i. (k.hears m app slot n h tag b time fed.0 shut i.0, l.hears m app slot n h tag b time fed.1 shut i.1);
-  opens = λ m app slot n h tag b time fed opening i. (k.opens m app slot n h tag b time fed.0 opening i.0, l.opens m app slot n h tag b time fed.1 opening i.1);
-  admits = λ m app slot n b time is_open room waits i. (k.admits m app slot n b time is_open room waits i.0, l.admits m app slot n b time is_open room waits i.1);
-  delays = λ m app slot n payload is_open waits i. (k.delays m app slot n payload is_open waits i.0, l.delays m app slot n payload is_open waits i.1);
-  settles = λ m app slot n b time is_open room waits i. (k.settles m app slot n b time is_open room waits i.0, l.settles m app slot n b time is_open room waits i.1);
-  drops = λ m app slot n shut i. (k.drops m app slot n shut i.0, l.drops m app slot n shut i.1);
-  delivers = λ m app slot n b time e i. (k.delivers m app slot n b time e i.0, l.delivers m app slot n b time e i.1);
-  keeps = λ m app slot n b c e same i. (k.keeps m app slot n b c e same i.0, l.keeps m app slot n b c e same i.1);
+  grows = λ m later s n g i. (k.grows m later s n g i.0, l.grows m later s n g i.1);
+  connects = λ m s ordinal time c flags home asked. (k.connects m s ordinal time c flags home asked.0, l.connects m s ordinal time c flags home asked.1);
+  accepts = λ m s ordinal time c flags h tag options home syn invited.
+      (k.accepts m s ordinal time c flags h tag options home syn invited.0, l.accepts m s ordinal time c flags h tag options home syn invited.1);
+  early = λ m s n i e. k.early m s n i.0 e;
+  never = λ m s n i e. k.never m s n i.0 e;
+  rests = λ m s n i. (k.rests m s n i.0, l.rests m s n i.1);
+  ticks = λ m s n time i. (k.ticks m s n time i.0, l.ticks m s n time i.1);
+  closes = λ m s n time i. (k.closes m s n time i.0, l.closes m s n time i.1);
+  makes = λ m s n time j job i. (k.makes m s n time j job i.0, l.makes m s n time j job i.1);
+  hears = λ m s n h tag b time fed shut i. (k.hears m s n h tag b time fed.0 shut i.0, l.hears m s n h tag b time fed.1 shut i.1);
+  opens = λ m s n h tag b time fed opening i. (k.opens m s n h tag b time fed.0 opening i.0, l.opens m s n h tag b time fed.1 opening i.1);
+  admits = λ m s n b time is_open room waits i. (k.admits m s n b time is_open room waits i.0, l.admits m s n b time is_open room waits i.1);
+  delays = λ m s n payload is_open waits i. (k.delays m s n payload is_open waits i.0, l.delays m s n payload is_open waits i.1);
+  settles = λ m s n b time is_open room waits i. (k.settles m s n b time is_open room waits i.0, l.settles m s n b time is_open room waits i.1);
+  drops = λ m s n shut i. (k.drops m s n shut i.0, l.drops m s n shut i.1);
+  delivers = λ m s n b time e i. (k.delivers m s n b time e i.0, l.delivers m s n b time e i.1);
+  keeps = λ m s n b c e same i. (k.keeps m s n b c e same i.0, l.keeps m s n b c e same i.1);
 }
 
 -- ---- what of packets is heard, that they are handed to the connections of their flows
@@ -77,12 +78,12 @@ pub record IsOfPeer (flows : Flows) (R : Connection → ℕ × ℕ → Type 0) (
 abbrev pub AcksWithin : ℕ → Content → Type 0
 AcksWithin bound b = (t : Tag) → b.trace.tag ≡ Some t → t.ack ≤ bound
 
-abbrev pub IsPeer : (top : ℕ) → Flows → (Connection → ℕ × ℕ → Type 0) → Origin → Numbering → ℕ → ℕ → Now → Type 0
-IsPeer top flows R o m app slot n = IsMaker top o m app slot n × IsHearer flows R m app slot n
+abbrev pub IsPeer : (top : ℕ) → Flows → (Connection → ℕ × ℕ → Type 0) → OwnFlows → Numbering → Seat → Now → Type 0
+IsPeer top flows R o m s n = IsMaker top o m s n × IsHearer flows R m s n
 
 abbrev pub peer_aim : Facts → (top bound : ℕ) → Flows → (Connection → ℕ × ℕ → Type 0) → (Content → Type 0) → Aim
 peer_aim f top bound flows R hears = record {
-  is = IsPeer top flows R (origin_of f);
+  is = IsPeer top flows R (flows_of f);
   coming = both_come (addressable top) (of_peers flows R bound);
   over = λ m app x down. ⊤;
   good = AcksWithin bound;
@@ -112,34 +113,34 @@ module _ (f : Facts) (es : List Entry) (top bound : ℕ) (flows : Flows) (R : Co
       let here : (header_at b.header).dst ≡ f.addr = here_own f.addr (header_at b.header).dst top was.here (k.dst tag.0 tag.1) few in
       (tag.0, tag.1, read_true flows b payload read tag.0 (k.genuine tag.0 tag.1) was.is_unwrapped was.is_parted, k.peer tag.0 tag.1 here, k.index tag.0 tag.1)
 
-  acks_within : (p : PlainPorts) (books : Books) (m : Numbering) (app slot time : ℕ) (j : Job) (b : Content) (c : Connection) → IsPeer top flows R (origin_of f) m app slot (now_at p books app slot) → job_of time (machine_at p app slot) ≡ Some j
-      → AcksWithin bound (addressed f c (terms_at p app slot) (made_in j time app slot b p))
-  acks_within p books m app slot time j b c is job tag e =
-      let r : PlainRdp = machine_at p app slot in
+  acks_within : (p : PlainPorts) (books : Books) (m : Numbering) (seat : Seat) (time : ℕ) (j : Job) (b : Content) (c : Connection) → IsPeer top flows R (flows_of f) m seat (now_at p books seat) → job_of time (machine_at p seat) ≡ Some j
+      → AcksWithin bound (addressed f c (terms_at p seat) (made_in j time seat b p))
+  acks_within p books m seat time j b c is job tag e =
+      let r : PlainRdp = machine_at p seat in
       let s : Says = says j time r in
-      let x : Content = made_in j time app slot b p in
-      let tags : ◌≡◌ {A = Option Tag} (Some (tag_for s r)) (Some tag) = sym (ap (λ t. t.tag) (protected_trace (is_checked (header_for f c (terms_at p app slot))) x)) ∙ e in
+      let x : Content = made_in j time seat b p in
+      let tags : ◌≡◌ {A = Option Tag} (Some (tag_for s r)) (Some tag) = sym (ap (λ t. t.tag) (protected_trace (is_checked (header_for f c (terms_at p seat))) x)) ∙ e in
       let tag_is : tag_for s r ≡ tag = ap (λ (o : Option Tag). unwrap_or o (tag_for s r)) tags in
-      let ack = (maker-says top (origin_of f) m app slot (now_at p books app slot) time j is.0 job).ack in
+      let ack = (maker-says top (flows_of f) m seat (now_at p books seat) time j is.0 job).ack in
       let cur = cur_within r.peer refl in
       subst (λ (t : Tag). t.ack ≤ bound) tag_is (omega (arith, ack, cur))
     where
-      cur_within : (peer : Option (ℕ × ℕ)) → (machine_at p app slot).peer ≡ peer → (machine_at p app slot).recv.cur ≤ bound
+      cur_within : (peer : Option (ℕ × ℕ)) → (machine_at p seat).peer ≡ peer → (machine_at p seat).recv.cur ≤ bound
       cur_within (Some flow) q = let near = is.1.1.near flow q in let most = far flow in omega (arith, near, most)
       cur_within None q = let none = is.1.1.fresh q in omega (arith, none)
 
   pub peer_is_aim : IsAim (peer_aim f top bound flows R hears) f (past es)
   peer_is_aim = record {
-    ports = ports_kept (origin_of f) (both_come (addressable top) (of_peers flows R bound)) (IsPeer top flows R (origin_of f))
-        (both-kept (origin_of f) (addressable top) (of_peers flows R bound) (IsMaker top (origin_of f)) (IsHearer flows R) (maker-kept top (origin_of f)) (hearer-kept (origin_of f) flows R bound within one short));
-    ended = λ m app slot n how is e. tt;
-    plain = λ m app slot ordinal down. tt;
+    ports = ports_kept (flows_of f) (both_come (addressable top) (of_peers flows R bound)) (IsPeer top flows R (flows_of f))
+        (both-kept (flows_of f) (addressable top) (of_peers flows R bound) (IsMaker top (flows_of f)) (IsHearer flows R) (maker-kept top (flows_of f)) (hearer-kept (flows_of f) flows R bound within one short));
+    ended = λ m s n how is e. tt;
+    plain = λ m s ordinal down. tt;
     grows = λ m m' app x down on over. tt;
-    never_plain = λ m app slot n is e. sender_not n.machine.state (origin_of f) m app slot n is.0.0 e;
+    never_plain = λ m s n is e. sender_not n.machine.state (flows_of f) m s n is.0.0 e;
     unmarked = λ mark b e none comes tag q. absurd (let both : ◌≡◌ {A = Option Tag} None (Some tag) = sym none ∙ q in cc);
     unreliable = λ b none plain tag q. absurd (let both : ◌≡◌ {A = Option Tag} None (Some tag) = sym none ∙ q in cc);
     wishes = λ p r comes reliable own chosen. (asked_addressable top p r allows comes reliable own chosen, tt);
-    makes = λ h m books p app slot time j b c part tells o there is found job. acks_within p books m app slot time j b c is job;
+    makes = λ h m books p s time j b c part tells o there is found job. acks_within p books m s time j b c is job;
     feeds = λ b payload r read heard was fresh. (tt, fed_by b payload read heard was);
     asks = λ b payload read heard was syn.
         let fed = fed_by b payload read heard was in

@@ -6,9 +6,10 @@ use Rattle.std.specs.Option.{option_map, option_to_list}
 use Rattle.std.proofs.lemmas.Bool.{and_parts, ltb-true}
 use Rattle.std.proofs.lemmas.List.{length-append}
 use Rattle.std.proofs.lemmas.List.Elements.{All-head, All-nil, All-push, All-tail, All-weaker}
+use Rattle.csp_base.specs.declared.seat.Seat.{Seat}
 use Rattle.csp_base.specs.declared.traces.Tag.{Tag}
 use Rattle.csp_buffer.specs.PlainBuffer.{PlainBuffer}
-use Rattle.csp_ports.specs.declared.origin.Origin.{Origin}
+use Rattle.csp_ports.specs.declared.flows.OwnFlows.{OwnFlows}
 use Rattle.csp_rdp_header.specs.declared.head.RdpHead.{RdpHead}
 use Rattle.csp_rdp_window.specs.Receiving.{PlainRecv}
 use Rattle.csp_rdp_window.specs.Sending.{PlainSend, acked_at, fresh, is_due, is_inside, with_mark}
@@ -19,7 +20,7 @@ use Rattle.csp_rdp_window.specs.declared.pending.Pending.{Pending}
 use Rattle.csp_rdp.specs.Holding.{rested}
 use Rattle.csp_rdp.specs.Jobs.{admitting, closed_in, closing, delivering, job_of, keeping_again, reset_after, says, sent, syn_in, taken_in, ticked, timed_out, without_delivery}
 use Rattle.csp_rdp.specs.Machine.{PlainRdp, broken, left, owes_rst}
-use Rattle.csp_rdp.specs.Table.{acknowledged, after, entered_from, after_packet as handed, listing, row_of}
+use Rattle.csp_rdp.specs.Table.{acknowledged, after, entered_from, after_packet, listing, row_of}
 use Rattle.csp_rdp.specs.declared.answers.State.{State}
 use Rattle.csp_rdp.specs.declared.answers.State.TheVariants.{Closed, SynSent, SynRcvd, Open, CloseWait}
 use Rattle.csp_rdp.specs.declared.jobs.Job.{Job}
@@ -146,7 +147,7 @@ pub own-delivered : (w : PlainRecv) (a b : PlainRdp) → Delivers w a b → IsSa
 own-delivered w a b (delivers g) = g.own
 own-delivered w a b (resets g) = g.own
 
-module _ (top : ℕ) (o : Origin) where
+module _ (top : ℕ) (o : OwnFlows) where
   -- that leaves the connection's own side, but for una
   bounded-on : (n : Now) (b : PlainRdp) → IsSameOwn n.machine b → IsOrdered b.send → IsBounded top o n → IsBounded top o (with_machine b n)
   bounded-on n b same ordered i = record {
@@ -157,8 +158,8 @@ module _ (top : ℕ) (o : Origin) where
     addressable = i.addressable;
   }
 
-  bounded-handed : (n : Now) (h : RdpHead) (tag : Option Tag) (b : PlainBuffer) (time : ℕ) → IsBounded top o n → IsBounded top o (with_machine (handed h tag b time n.machine) n)
-  bounded-handed n h tag b time i = bounded-on n (handed h tag b time n.machine) (own-heard h tag b n.machine _ (hears-handed h tag b time n.machine))
+  bounded-handed : (n : Now) (h : RdpHead) (tag : Option Tag) (b : PlainBuffer) (time : ℕ) → IsBounded top o n → IsBounded top o (with_machine (after_packet h tag b time n.machine) n)
+  bounded-handed n h tag b time i = bounded-on n (after_packet h tag b time n.machine) (own-heard h tag b n.machine _ (hears-handed h tag b time n.machine))
       (ordered-after (row_of n.machine h b.picture.payload) h tag b time n.machine i.order) i
 
   -- that is told, and else leaves all
@@ -213,55 +214,55 @@ module _ (top : ℕ) (o : Origin) where
   }
 
 -- the next index is at most one past all that was sent
-pub next-sent : (top : ℕ) (o : Origin) (n : Now) → IsBounded top o n → n.machine.send.nxt ≤ length n.book.sent + 1
+pub next-sent : (top : ℕ) (o : OwnFlows) (n : Now) → IsBounded top o n → n.machine.send.nxt ≤ length n.book.sent + 1
 next-sent top o n i = let h = i.admitted in omega (arith, h)
 
 -- ---- all of it
 
-pub maker-kept : (top : ℕ) (o : Origin) → IsKept o (addressable top) (IsMaker top o)
+pub maker-kept : (top : ℕ) (o : OwnFlows) → IsKept o (addressable top) (IsMaker top o)
 maker-kept top o = record {
-  grows = λ m later app slot n g i. ((sender-kept o).grows m later app slot n g i.0, i.1);
-  connects = λ m app slot ordinal time c flags home asked. (
-    (sender-kept o).connects m app slot ordinal time c flags home tt,
+  grows = λ m later s n g i. ((sender-kept o).grows m later s n g i.0, i.1);
+  connects = λ m s ordinal time c flags home asked. (
+    (sender-kept o).connects m s ordinal time c flags home tt,
     record { node = refl; order = omega arith; below = All-nil (λ p. p.index < 1); admitted = omega arith; addressable = asked },
   );
-  accepts = λ m app slot ordinal time c flags h tag options home syn invited. (
-    (sender-kept o).accepts m app slot ordinal time c flags h tag options home syn tt,
+  accepts = λ m s ordinal time c flags h tag options home syn invited. (
+    (sender-kept o).accepts m s ordinal time c flags h tag options home syn tt,
     record { node = refl; order = omega arith; below = All-nil (λ p. p.index < 1); admitted = omega arith; addressable = invited },
   );
-  early = λ m app slot n i e. (sender-kept o).early m app slot n i.0 e;
-  never = λ m app slot n i e. (sender-kept o).never m app slot n i.0 e;
-  rests = λ m app slot n i. ((sender-kept o).rests m app slot n i.0, bounded-on top o n (rested n.machine) (goes-rested n.machine).own i.1.order i.1);
-  ticks = λ m app slot n time i. (
-    (sender-kept o).ticks m app slot n time i.0,
+  early = λ m s n i e. (sender-kept o).early m s n i.0 e;
+  never = λ m s n i e. (sender-kept o).never m s n i.0 e;
+  rests = λ m s n i. ((sender-kept o).rests m s n i.0, bounded-on top o n (rested n.machine) (goes-rested n.machine).own i.1.order i.1);
+  ticks = λ m s n time i. (
+    (sender-kept o).ticks m s n time i.0,
     bounded-on top o n (ticked time n.machine) (own-ways n.machine _ (ways-ticked time n.machine)) (ordered-ticked time n.machine i.1.order) i.1,
   );
-  closes = λ m app slot n time i. (
-    (sender-kept o).closes m app slot n time i.0,
+  closes = λ m s n time i. (
+    (sender-kept o).closes m s n time i.0,
     bounded-on top o n (closing time n.machine) (own-ways n.machine _ (ways-closing time n.machine)) (ordered-closed n.machine.state time n.machine i.1.order) i.1,
   );
-  makes = λ m app slot n time j job i. (
-    (sender-kept o).makes m app slot n time j job i.0,
+  makes = λ m s n time j job i. (
+    (sender-kept o).makes m s n time j job i.0,
     bounded-on top o n (sent j time n.machine) (goes-sent j time n.machine).own (ordered-sent j time n.machine i.1.order) i.1,
   );
-  hears = λ m app slot n h tag b time fed shut i. ((sender-kept o).hears m app slot n h tag b time tt shut i.0, bounded-handed top o n h tag b time i.1);
-  opens = λ m app slot n h tag b time fed opening i. (
-    (sender-kept o).opens m app slot n h tag b time tt opening i.0,
-    bounded-opened top o (with_machine (handed h tag b time n.machine) n) (bounded-handed top o n h tag b time i.1),
+  hears = λ m s n h tag b time fed shut i. ((sender-kept o).hears m s n h tag b time tt shut i.0, bounded-handed top o n h tag b time i.1);
+  opens = λ m s n h tag b time fed opening i. (
+    (sender-kept o).opens m s n h tag b time tt opening i.0,
+    bounded-opened top o (with_machine (after_packet h tag b time n.machine) n) (bounded-handed top o n h tag b time i.1),
   );
-  admits = λ m app slot n b time is_open room waits i. ((sender-kept o).admits m app slot n b time is_open room waits i.0, bounded-admits top o n b time i.1);
-  delays = λ m app slot n payload is_open waits i. ((sender-kept o).delays m app slot n payload is_open waits i.0, bounded-delays top o n payload i.1);
-  settles = λ m app slot n b time is_open room waits i. ((sender-kept o).settles m app slot n b time is_open room waits i.0, bounded-settles top o n b time waits i.1);
-  drops = λ m app slot n shut i. ((sender-kept o).drops m app slot n shut i.0, bounded-drops top o n i.1);
-  delivers = λ m app slot n b time e i.
+  admits = λ m s n b time is_open room waits i. ((sender-kept o).admits m s n b time is_open room waits i.0, bounded-admits top o n b time i.1);
+  delays = λ m s n payload is_open waits i. ((sender-kept o).delays m s n payload is_open waits i.0, bounded-delays top o n payload i.1);
+  settles = λ m s n b time is_open room waits i. ((sender-kept o).settles m s n b time is_open room waits i.0, bounded-settles top o n b time waits i.1);
+  drops = λ m s n shut i. ((sender-kept o).drops m s n shut i.0, bounded-drops top o n i.1);
+  delivers = λ m s n b time e i.
       let r = delivering time (without_delivery n.machine) in (
-        (sender-kept o).delivers m app slot n b time e i.0,
+        (sender-kept o).delivers m s n b time e i.0,
         bounded-delivered top o b.picture.payload (with_machine r n)
             (bounded-on top o n r (own-delivered _ n.machine r (delivers-both time n.machine (delivers-open n.machine.state n.machine b e)))
             (ordered-delivering time (without_delivery n.machine) (ordered-taken n.machine.state n.machine i.1.order)) i.1),
       );
-  keeps = λ m app slot n b c e same i. (
-    (sender-kept o).keeps m app slot n b c e same i.0,
+  keeps = λ m s n b c e same i. (
+    (sender-kept o).keeps m s n b c e same i.0,
     bounded-on top o n (keeping_again c (without_delivery n.machine)) (goes-kept-again c n.machine (delivers-open n.machine.state n.machine b e)).own (ordered-taken n.machine.state n.machine i.1.order) i.1,
   );
 }
@@ -295,7 +296,7 @@ una-below : (was_open : Bool) (una nxt : ℕ) → una ≤ nxt → (if was_open t
 una-below true una nxt i = i
 una-below false una nxt i = omega arith
 
-module _ (top : ℕ) (o : Origin) (n : Now) (time : ℕ) (i : IsBounded top o n) where
+module _ (top : ℕ) (o : OwnFlows) (n : Now) (time : ℕ) (i : IsBounded top o n) where
   says-index : (j : Job) → (says j time n.machine).index ≤ n.machine.send.nxt
   says-index job.Rst = omega arith
   says-index job.Syn = syn-index n.machine.state n.machine
@@ -313,8 +314,8 @@ module _ (top : ℕ) (o : Origin) (n : Now) (time : ℕ) (i : IsBounded top o n)
   says-ack job.Ack = omega arith
 
 -- in the packet of the job that is owed, as in that of any other
-pub maker-says : (top : ℕ) (o : Origin) (m : Numbering) (app slot : ℕ) (n : Now) (time : ℕ) (j : Job) → IsMaker top o m app slot n → job_of time n.machine ≡ Some j → SaysNear n time j
-maker-says top o m app slot n time j i owed = record {
+pub maker-says : (top : ℕ) (o : OwnFlows) (m : Numbering) (s : Seat) (n : Now) (time : ℕ) (j : Job) → IsMaker top o m s n → job_of time n.machine ≡ Some j → SaysNear n time j
+maker-says top o m s n time j i owed = record {
   index = says-index top o n time i.1 j;
   ack = says-ack top o n time i.1 j;
   una = una-below n.machine.was_open n.machine.send.una n.machine.send.nxt i.1.order;

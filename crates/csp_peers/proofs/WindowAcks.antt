@@ -2,6 +2,7 @@
 use Rattle.std.proofs.Common.{◌≡◌, ◌≢◌, ℕ, pos, ◌<◌, ◌≤◌, ◌==◌, Bool, true, false, Option, None, Some, List, ◌++◌, refl, sym, ap, ◌∙◌, subst, arith}
 use Rattle.std.specs.Prelude.{⊤, if◌then◌else◌, ℤ, ◌+ℤ◌}
 use Rattle.std.specs.Option.{unwrap_or}
+use Rattle.csp_base.specs.declared.seat.Seat.{Seat}
 use Rattle.csp_base.proofs.Public.{wrapped_small}
 use Rattle.csp_base.specs.Sequence.{number_of}
 use Rattle.csp_base.specs.declared.traces.Tag.{Tag}
@@ -13,7 +14,7 @@ use Rattle.csp_log.specs.declared.places.QueueId.TheVariants as queue
 use Rattle.csp_log.specs.declared.shown.ItemShown.TheVariants as item
 use Rattle.csp_ports.specs.PlainPorts.{PlainPorts, machine_at, terms_at}
 use Rattle.csp_ports.specs.Tasks.{made_in}
-use Rattle.csp_ports.specs.declared.origin.Origin.{Origin}
+use Rattle.csp_ports.specs.declared.flows.OwnFlows.{OwnFlows}
 use Rattle.csp_rdp.specs.Jobs.{Says, ack_number, head_for, job_in, job_of, is_syn_due, says, syn_in, tag_for}
 use Rattle.csp_rdp.specs.Machine.{PlainRdp, una_of}
 use Rattle.csp_rdp.specs.declared.answers.State.{State}
@@ -34,7 +35,7 @@ use Rattle.csp_record.specs.Stale.{is_stale, is_stale_at}
 use Rattle.csp_route.specs.Routes.{Routes}
 use Rattle.csp_stack.specs.Config.{opening_state}
 use Rattle.csp_stack.specs.Readings.{is_checked}
-use Rattle.csp_stack.specs.Router.{Facts, origin_of}
+use Rattle.csp_stack.specs.Router.{Facts, flows_of}
 use Rattle.csp_stack.specs.Rules.{addressed, header_for}
 use Rattle.csp_stack.specs.Sending.{protected}
 use Rattle.csp_peers.proofs.PacketsMade.{sends_good}
@@ -45,33 +46,33 @@ use Rattle.csp_peers.proofs.SenderBounds.{own-delivered, own-heard, own-ways}
 -- ---- a connection has the node of its maker
 
 -- what is known of a reliable connection whose packets name the node
-abbrev pub IsOwner : Origin → Numbering → ℕ → ℕ → Now → Type 0
-IsOwner o m app slot n = IsSender o m app slot n × (n.machine.node ≡ o.node)
+abbrev pub IsOwner : OwnFlows → Numbering → Seat → Now → Type 0
+IsOwner o m s n = IsSender o m s n × (n.machine.node ≡ o.node)
 
 -- it is kept by each step
-pub owner-kept : (o : Origin) → IsKept o whatever (IsOwner o)
+pub owner-kept : (o : OwnFlows) → IsKept o whatever (IsOwner o)
 owner-kept o = record {
-  grows = λ m later app slot n g i. ((sender-kept o).grows m later app slot n g i.0, i.1);
-  connects = λ m app slot ordinal time c flags home asked. ((sender-kept o).connects m app slot ordinal time c flags home tt, refl);
-  accepts = λ m app slot ordinal time c flags h tag options home syn invited. ((sender-kept o).accepts m app slot ordinal time c flags h tag options home syn tt, refl);
-  early = λ m app slot n i e. (sender-kept o).early m app slot n i.0 e;
-  never = λ m app slot n i e. (sender-kept o).never m app slot n i.0 e;
-  rests = λ m app slot n i. ((sender-kept o).rests m app slot n i.0, (goes-rested n.machine).own.node ∙ i.1);
-  ticks = λ m app slot n time i. ((sender-kept o).ticks m app slot n time i.0, (own-ways n.machine _ (ways-ticked time n.machine)).node ∙ i.1);
-  closes = λ m app slot n time i. ((sender-kept o).closes m app slot n time i.0, (own-ways n.machine _ (ways-closing time n.machine)).node ∙ i.1);
-  makes = λ m app slot n time j job i. ((sender-kept o).makes m app slot n time j job i.0, (goes-sent j time n.machine).own.node ∙ i.1);
-  hears = λ m app slot n h tag b time fed shut i. ((sender-kept o).hears m app slot n h tag b time tt shut i.0, (own-heard h tag b n.machine _ (hears-handed h tag b time n.machine)).node ∙ i.1);
-  opens = λ m app slot n h tag b time fed opening i. ((sender-kept o).opens m app slot n h tag b time tt opening i.0, (own-heard h tag b n.machine _ (hears-handed h tag b time n.machine)).node ∙ i.1);
-  admits = λ m app slot n b time is_open room waits i. ((sender-kept o).admits m app slot n b time is_open room waits i.0, i.1);
-  delays = λ m app slot n payload is_open waits i. ((sender-kept o).delays m app slot n payload is_open waits i.0, i.1);
-  settles = λ m app slot n b time is_open room waits i. ((sender-kept o).settles m app slot n b time is_open room waits i.0, i.1);
-  drops = λ m app slot n shut i. ((sender-kept o).drops m app slot n shut i.0, i.1);
-  delivers = λ m app slot n b time e i. (
-    (sender-kept o).delivers m app slot n b time e i.0,
+  grows = λ m later s n g i. ((sender-kept o).grows m later s n g i.0, i.1);
+  connects = λ m s ordinal time c flags home asked. ((sender-kept o).connects m s ordinal time c flags home tt, refl);
+  accepts = λ m s ordinal time c flags h tag options home syn invited. ((sender-kept o).accepts m s ordinal time c flags h tag options home syn tt, refl);
+  early = λ m s n i e. (sender-kept o).early m s n i.0 e;
+  never = λ m s n i e. (sender-kept o).never m s n i.0 e;
+  rests = λ m s n i. ((sender-kept o).rests m s n i.0, (goes-rested n.machine).own.node ∙ i.1);
+  ticks = λ m s n time i. ((sender-kept o).ticks m s n time i.0, (own-ways n.machine _ (ways-ticked time n.machine)).node ∙ i.1);
+  closes = λ m s n time i. ((sender-kept o).closes m s n time i.0, (own-ways n.machine _ (ways-closing time n.machine)).node ∙ i.1);
+  makes = λ m s n time j job i. ((sender-kept o).makes m s n time j job i.0, (goes-sent j time n.machine).own.node ∙ i.1);
+  hears = λ m s n h tag b time fed shut i. ((sender-kept o).hears m s n h tag b time tt shut i.0, (own-heard h tag b n.machine _ (hears-handed h tag b time n.machine)).node ∙ i.1);
+  opens = λ m s n h tag b time fed opening i. ((sender-kept o).opens m s n h tag b time tt opening i.0, (own-heard h tag b n.machine _ (hears-handed h tag b time n.machine)).node ∙ i.1);
+  admits = λ m s n b time is_open room waits i. ((sender-kept o).admits m s n b time is_open room waits i.0, i.1);
+  delays = λ m s n payload is_open waits i. ((sender-kept o).delays m s n payload is_open waits i.0, i.1);
+  settles = λ m s n b time is_open room waits i. ((sender-kept o).settles m s n b time is_open room waits i.0, i.1);
+  drops = λ m s n shut i. ((sender-kept o).drops m s n shut i.0, i.1);
+  delivers = λ m s n b time e i. (
+    (sender-kept o).delivers m s n b time e i.0,
     (own-delivered _ n.machine _ (delivers-both time n.machine (delivers-open n.machine.state n.machine b e))).node ∙ i.1,
   );
-  keeps = λ m app slot n b c e same i. (
-    (sender-kept o).keeps m app slot n b c e same i.0,
+  keeps = λ m s n b c e same i. (
+    (sender-kept o).keeps m s n b c e same i.0,
     (goes-kept-again c n.machine (delivers-open n.machine.state n.machine b e)).own.node ∙ i.1,
   );
 }
@@ -87,19 +88,19 @@ untagged : (P : Tag → Type 0) (b : Content) → b.trace.tag ≡ None → (t : 
 untagged P b none t e = absurd (let both : ◌≡◌ {A = Option Tag} None (Some t) = sym none ∙ e in cc)
 
 -- the tag of a packet that is made
-made_tag : (f : Facts) (c : Connection) (p : PlainPorts) (app slot time : ℕ) (j : Job) (b : Content) (t : Tag) → (addressed f c (terms_at p app slot) (made_in j time app slot b p)).trace.tag ≡ Some t
-    → tag_for (says j time (machine_at p app slot)) (machine_at p app slot) ≡ t
-made_tag f c p app slot time j b t e =
-    let r : PlainRdp = machine_at p app slot in
+made_tag : (f : Facts) (c : Connection) (p : PlainPorts) (seat : Seat) (time : ℕ) (j : Job) (b : Content) (t : Tag) → (addressed f c (terms_at p seat) (made_in j time seat b p)).trace.tag ≡ Some t
+    → tag_for (says j time (machine_at p seat)) (machine_at p seat) ≡ t
+made_tag f c p seat time j b t e =
+    let r : PlainRdp = machine_at p seat in
     let s : Says = says j time r in
-    let x : Content = made_in j time app slot b p in
-    let tags : ◌≡◌ {A = Option Tag} (Some (tag_for s r)) (Some t) = sym (ap (λ k. k.tag) (protected_trace (is_checked (header_for f c (terms_at p app slot))) x)) ∙ e in
+    let x : Content = made_in j time seat b p in
+    let tags : ◌≡◌ {A = Option Tag} (Some (tag_for s r)) (Some t) = sym (ap (λ k. k.tag) (protected_trace (is_checked (header_for f c (terms_at p seat))) x)) ∙ e in
     ap (λ (o : Option Tag). unwrap_or o (tag_for s r)) tags
 
 -- what is to be known of a router's connections, that its packets name its node
 abbrev owner_aim : Facts → List Entry → Aim
 owner_aim f es = record {
-  is = IsOwner (origin_of f);
+  is = IsOwner (flows_of f);
   coming = whatever;
   over = λ m app x down. ⊤;
   good = NamesNode f;
@@ -111,15 +112,15 @@ owner_aim f es = record {
 
 owner_is_aim : (f : Facts) (es : List Entry) → IsAim (owner_aim f es) f (past es)
 owner_is_aim f es = record {
-  ports = ports_kept (origin_of f) whatever (IsOwner (origin_of f)) (owner-kept (origin_of f));
-  ended = λ m app slot n how is e. tt;
-  plain = λ m app slot ordinal down. tt;
+  ports = ports_kept (flows_of f) whatever (IsOwner (flows_of f)) (owner-kept (flows_of f));
+  ended = λ m s n how is e. tt;
+  plain = λ m s ordinal down. tt;
   grows = λ m m' app x down on over. tt;
-  never_plain = λ m app slot n is e. sender_not n.machine.state (origin_of f) m app slot n is.0 e;
+  never_plain = λ m s n is e. sender_not n.machine.state (flows_of f) m s n is.0 e;
   unmarked = λ mark b e none comes. untagged (λ t. t.node ≡ f.node) b none;
   unreliable = λ b none plain. untagged (λ t. t.node ≡ f.node) b none;
   wishes = λ p r comes reliable own chosen. tt;
-  makes = λ h m books p app slot time j b c part tells o there is found job t e. ap (λ (k : Tag). k.node) (sym (made_tag f c p app slot time j b t e)) ∙ is.1;
+  makes = λ h m books p s time j b c part tells o there is found job t e. ap (λ (k : Tag). k.node) (sym (made_tag f c p s time j b t e)) ∙ is.1;
   feeds = λ b payload r read heard known fresh. tt;
   asks = λ b payload read heard known syn. tt;
 }
@@ -226,7 +227,7 @@ protected_payload false b = refl
 -- what is to be known of a router's connections, and of the packets of that with the number of the last machine
 abbrev acker_aim : Facts → List Entry → Flows → PlainRdp → ℕ × ℕ → Aim
 acker_aim f es flows last peer = record {
-  is = λ m app slot n. IsOwner (origin_of f) m app slot n × IsReceiver flows m app slot n;
+  is = λ m s n. IsOwner (flows_of f) m s n × IsReceiver flows m s n;
   coming = both_come whatever (true_packets flows);
   over = λ m app x down. ⊤;
   good = Acknowledges flows (f.node, last.nth) peer last.recv.cur;
@@ -238,24 +239,24 @@ acker_aim f es flows last peer = record {
 
 module _ (f : Facts) (es : List Entry) (flows : Flows) (last : PlainRdp) (peer : ℕ × ℕ) (peered : last.peer ≡ Some peer) where
   -- what its machine makes
-  makes_ack : (p : PlainPorts) (books : Books) (app slot time : ℕ) (j : Job) (b : Content) (c : Connection) → ReceivesIn (machine_at p app slot).state flows (now_at p books app slot) → IsBefore last (machine_at p app slot)
-      → job_of time (machine_at p app slot) ≡ Some j → Acknowledges flows (f.node, last.nth) peer last.recv.cur (addressed f c (terms_at p app slot) (made_in j time app slot b p))
-  makes_ack p books app slot time j b c is found owed t e of =
-      let r : PlainRdp = machine_at p app slot in
+  makes_ack : (p : PlainPorts) (books : Books) (seat : Seat) (time : ℕ) (j : Job) (b : Content) (c : Connection) → ReceivesIn (machine_at p seat).state flows (now_at p books seat) → IsBefore last (machine_at p seat)
+      → job_of time (machine_at p seat) ≡ Some j → Acknowledges flows (f.node, last.nth) peer last.recv.cur (addressed f c (terms_at p seat) (made_in j time seat b p))
+  makes_ack p books seat time j b c is found owed t e of =
+      let r : PlainRdp = machine_at p seat in
       let s : Says = says j time r in
-      let x : Content = made_in j time app slot b p in
-      let hdr : Header = header_for f c (terms_at p app slot) in
-      let tag_is : tag_for s r ≡ t = made_tag f c p app slot time j b t e in
+      let x : Content = made_in j time seat b p in
+      let hdr : Header = header_for f c (terms_at p seat) in
+      let tag_is : tag_for s r ≡ t = made_tag f c p seat time j b t e in
       let nth : r.nth ≡ last.nth = ap (λ (k : Tag). k.nth) tag_is ∙ ap (λ (k : ℕ × ℕ). k.1) of in
       let before = found nth in
-      subst (λ k. IsAck flows peer last.recv.cur (addressed f c (terms_at p app slot) x) k) tag_is (record {
+      subst (λ k. IsAck flows peer last.recv.cur (addressed f c (terms_at p seat) x) k) tag_is (record {
         far = let acked = says_far j time r in let cur = before.0 in omega (arith, acked, cur);
         head = head_for s r;
         bytes = s.bytes;
         seq_range = number_small r.send.start (pos s.index);
         ack_range = ack_small (s.flags == SYN) (number_of r.recv.start (pos s.ack)) (number_small r.recv.start (pos s.ack));
         payload = protected_payload (is_checked hdr) x ∙ ap (λ has. with_checksum has (s.bytes ++ head_bytes (head_for s r))) (sym (checked_flag hdr));
-        number = λ acks none. says_acked flows peer (now_at p books app slot) time j owed is (λ past_opening. before.1 past_opening ∙ peered) acks none;
+        number = λ acks none. says_acked flows peer (now_at p books seat) time j owed is (λ past_opening. before.1 past_opening ∙ peered) acks none;
       })
 
   -- what is handed to a connection is of its peer
@@ -267,16 +268,16 @@ module _ (f : Facts) (es : List Entry) (flows : Flows) (last : PlainRdp) (peer :
 
   acker_is_aim : IsAim (acker_aim f es flows last peer) f (past es)
   acker_is_aim = record {
-    ports = ports_kept (origin_of f) (both_come whatever (true_packets flows)) (acker_aim f es flows last peer).is
-        (both-kept (origin_of f) whatever (true_packets flows) (IsOwner (origin_of f)) (IsReceiver flows) (owner-kept (origin_of f)) (receiver-kept (origin_of f) flows));
-    ended = λ m app slot n how is e. tt;
-    plain = λ m app slot ordinal down. tt;
+    ports = ports_kept (flows_of f) (both_come whatever (true_packets flows)) (acker_aim f es flows last peer).is
+        (both-kept (flows_of f) whatever (true_packets flows) (IsOwner (flows_of f)) (IsReceiver flows) (owner-kept (flows_of f)) (receiver-kept (flows_of f) flows));
+    ended = λ m s n how is e. tt;
+    plain = λ m s ordinal down. tt;
     grows = λ m m' app x down on over. tt;
-    never_plain = λ m app slot n is e. sender_not n.machine.state (origin_of f) m app slot n is.0.0 e;
+    never_plain = λ m s n is e. sender_not n.machine.state (flows_of f) m s n is.0.0 e;
     unmarked = λ mark b e none comes t q. absurd (untagged (λ t. ⊥) b none t q);
     unreliable = λ b none plain t q. absurd (untagged (λ t. ⊥) b none t q);
     wishes = λ p r comes reliable own chosen. (tt, tt);
-    makes = λ h m books p app slot time j b c part tells o there is found owed. makes_ack p books app slot time j b c is.1 found owed;
+    makes = λ h m books p s time j b c part tells o there is found owed. makes_ack p books s time j b c is.1 found owed;
     feeds = λ b payload r read heard was fresh. (tt, fed_so b payload r read heard.1 was fresh);
     asks = λ b payload read heard was syn. (tt, λ t e. (read_true flows b payload read t (heard.1 t e) was.is_unwrapped was.is_parted).syn syn);
   }

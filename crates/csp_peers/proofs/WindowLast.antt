@@ -29,7 +29,7 @@ use Rattle.csp_scene.specs.Links.{links_at}
 use Rattle.csp_scene.specs.Ranges.{IsScene}
 use Rattle.csp_scene.specs.Scene.{PlainScene}
 use Rattle.csp_stack.specs.Config.{opening_state}
-use Rattle.csp_stack.specs.Router.{Facts, Router, State, origin_of}
+use Rattle.csp_stack.specs.Router.{Facts, Router, State, flows_of}
 use Rattle.csp_stack.specs.Rules.{connection_of}
 use Rattle.csp_stack.specs.Turn.{asked_at, timed, told_at}
 use Rattle.csp_topology.specs.Parties.{config_of}
@@ -169,7 +169,7 @@ module _ (scene : PlainScene) (r : PlainRecord) (is : IsScene scene) (con : IsCo
         (each_at (TellsAt last.facts ports e.op e.answer) e.events.items handed.at (event.Handed nth (Some peer) (Some tag) cur handed.una) (entry_tells last e step) handed.told)
 
     abbrev machine : PlainRdp
-    machine = machine_at ports popped.handing.app popped.handing.slot
+    machine = machine_at ports popped.handing.seat
 
     -- of a Handed event: the number, the peer, and how far the connection was
     abbrev number_in : Event → ℕ
@@ -198,7 +198,7 @@ module _ (scene : PlainScene) (r : PlainRecord) (is : IsScene scene) (con : IsCo
     base = sender_aim f before (λ b. ⊤)
 
     base_is_aim : IsAim base f (past before)
-    base_is_aim = sender_is_aim f before (λ b. ⊤) (ports_kept (origin_of f) whatever (IsSender (origin_of f)) (sender-kept (origin_of f))) (sender-opens (origin_of f)) (λ b none. tt) (λ h m books p app slot time j b c part tells o there known found owed. tt)
+    base_is_aim = sender_is_aim f before (λ b. ⊤) (ports_kept (flows_of f) whatever (IsSender (flows_of f)) (sender-kept (flows_of f))) (sender-opens (flows_of f)) (λ b none. tt) (λ h m books p s time j b c part tells o there known found owed. tt)
 
     standing : Stands base f (past before) last.state.ports last.state.out
     standing =
@@ -209,9 +209,9 @@ module _ (scene : PlainScene) (r : PlainRecord) (is : IsScene scene) (con : IsCo
     found : AreFound (IsBefore machine) f (opening_state f.apps t.node.routes) (log_of place)
     found =
         let w = stands_timed base f (past before) base_is_aim (past before) last.state e.time standing in
-        let x = found_there ports.conns (connection_of (header_at popped.packet.header)) (popped.handing.app, popped.handing.slot) w.good.conns popped.handing.at in
+        let x = found_there ports.conns (connection_of (header_at popped.packet.header)) popped.handing.seat w.good.conns popped.handing.at in
         subst (AreFound (IsBefore machine) f (opening_state f.apps t.node.routes)) (sym whole)
-        (past_found f t.node.routes before e popped.handing.app popped.handing.slot log (subst (λ n. popped.handing.app < n) w.apps x.app_there) x.slot_there (record { connection = connection_of (header_at popped.packet.header); there = x.is_open; reliable = popped.handing.kind }))
+        (past_found f t.node.routes before e popped.handing.seat log (subst (λ n. popped.handing.seat.app < n) w.apps x.app_there) x.slot_there (record { connection = connection_of (header_at popped.packet.header); there = x.is_open; reliable = popped.handing.kind }))
 
     -- each packet of the connection that is heard anywhere acknowledges no more than it has delivered
     abbrev Acks : Content → Type 0

@@ -7,13 +7,14 @@ use Rattle.std.specs.Option.{option_map_or}
 use Rattle.std.proofs.lemmas.Bool.{and_parts, eqb-true, leb-false, leb-true, lt-leb, ltb-true, not-true}
 use Rattle.std.proofs.lemmas.Int.{ints}
 use Rattle.std.proofs.lemmas.List.Elements.{All-head, All-nil, All-push, All-tail, All-weaker}
+use Rattle.csp_base.specs.declared.seat.Seat.{Seat}
 use Rattle.csp_base.specs.Sequence.{near, number_of}
 use Rattle.csp_base.specs.declared.traces.Tag.{Tag}
 use Rattle.csp_base.proofs.Public.{near_is}
 use Rattle.csp_buffer.specs.PlainBuffer.{PlainBuffer}
 use Rattle.csp_ports.specs.PlainPorts.{is_open, start_of}
 use Rattle.csp_ports.specs.Steps.{has_room}
-use Rattle.csp_ports.specs.declared.origin.Origin.{Origin}
+use Rattle.csp_ports.specs.declared.flows.OwnFlows.{OwnFlows}
 use Rattle.csp_record.specs.Stale.{is_far}
 use Rattle.csp_rdp_header.specs.Head.{has_flag}
 use Rattle.csp_rdp_header.specs.declared.head.RdpHead.{RdpHead}
@@ -27,7 +28,7 @@ use Rattle.csp_rdp_window.specs.declared.pending.Pending.{Pending}
 use Rattle.csp_rdp.specs.Holding.{rested}
 use Rattle.csp_rdp.specs.Jobs.{admitting, closed_in, closing, delivering, head_for, keeping_again, reset_after, says, sending_index, sent, syn_in, taken_in, ticked, timed_out, without_delivery}
 use Rattle.csp_rdp.specs.Machine.{PlainRdp, broken, left, owes_rst, una_of}
-use Rattle.csp_rdp.specs.Table.{ack_row, acknowledged, after, close_wait_row, data_row, entered_from, after_packet as handed, is_bad_list, listing, open_row, reset_row, row_in, syn_rcvd_row, syn_sent_row}
+use Rattle.csp_rdp.specs.Table.{ack_row, acknowledged, after, close_wait_row, data_row, entered_from, after_packet, is_bad_list, listing, open_row, reset_row, row_in, syn_rcvd_row, syn_sent_row}
 use Rattle.csp_rdp.specs.declared.answers.State.{State}
 use Rattle.csp_rdp.specs.declared.answers.State.TheVariants.{Closed, SynSent, SynRcvd, Open, CloseWait}
 use Rattle.csp_rdp.specs.declared.jobs.Job.{Job}
@@ -61,7 +62,7 @@ pub record IsFedWell (H : Tag → Type 0) (start : ℕ) (r : PlainRdp) (h : RdpH
   pub number : has_flag h ACK ≡ true → has_flag h RST ≡ false → h.ack.0 ≡ number_of start (pos tag.ack)
 
 -- such packets come to that connection, and others to others
-abbrev pub acknowledging : Origin → (Tag → Type 0) → (nth : ℕ) → (peer : ℕ × ℕ) → Coming
+abbrev pub acknowledging : OwnFlows → (Tag → Type 0) → (nth : ℕ) → (peer : ℕ × ℕ) → Coming
 acknowledging o H nth peer = record {
   fed = λ c r h tag bytes. r.nth ≡ nth → r.peer ≡ Some peer → IsFedWell H (start_of o.seed r.nth) r h;
   invites = λ c flags h tag. ⊤;
@@ -69,8 +70,8 @@ acknowledging o H nth peer = record {
 }
 
 -- what is known of a reliable connection as one that keeps to its window
-abbrev pub IsKeeping : Origin → (Tag → Type 0) → (nth : ℕ) → (peer : ℕ × ℕ) → Numbering → ℕ → ℕ → Now → Type 0
-IsKeeping o H nth peer m app slot n = IsSender o m app slot n × IsWindowed H nth peer n.machine
+abbrev pub IsKeeping : OwnFlows → (Tag → Type 0) → (nth : ℕ) → (peer : ℕ × ℕ) → Numbering → Seat → Now → Type 0
+IsKeeping o H nth peer m s n = IsSender o m s n × IsWindowed H nth peer n.machine
 
 -- ---- steps that leave una, the window and the peer
 
@@ -296,7 +297,7 @@ module _ (h : RdpHead) (tag : Option Tag) (p : PlainBuffer) (time : ℕ) where
   shifts-in CloseWait r = shifts-waiting r
   shifts-in Closed r = stands (still (at Closed r))
 
-  shifts-handed : (r : PlainRdp) → Shifts h r (handed h tag p time r)
+  shifts-handed : (r : PlainRdp) → Shifts h r (after_packet h tag p time r)
   shifts-handed r = shifts-in r.state r
 
 -- ---- where una comes to
@@ -322,32 +323,32 @@ shown-near start una index n far e =
     ap index_of is
 
 -- while acknowledgements are heard, una is that of the connection, or at most 1
-near-una : (s : State) (o : Origin) (m : Numbering) (app slot : ℕ) (n : Now) (index : ℕ) → IsHearing s → SendsIn s o m app slot n → n.machine.send.una ≤ n.machine.send.nxt → is_far index (una_of n.machine) ≡ false
+near-una : (s : State) (o : OwnFlows) (m : Numbering) (seat : Seat) (n : Now) (index : ℕ) → IsHearing s → SendsIn s o m seat n → n.machine.send.una ≤ n.machine.send.nxt → is_far index (una_of n.machine) ≡ false
     → is_far index n.machine.send.una ≡ false
-near-una SynSent o m app slot n index hearing i order far = absurd hearing
-near-una SynRcvd o m app slot n index hearing i order far =
+near-una SynSent o m seat n index hearing i order far = absurd hearing
+near-una SynRcvd o m seat n index hearing i order far =
     let next = i.2.next in
     let none : is_far index 0 ≡ false = subst (λ (b : Bool). is_far index (if b then n.machine.send.una else 0) ≡ false) i.3 far in
     let close = leb-false 32768 (abs_diff index 0) none in
     lt-leb 32768 (abs_diff index n.machine.send.una) (omega (arith, ints, close, next, order))
-near-una Open o m app slot n index hearing i order far = subst (λ (b : Bool). is_far index (if b then n.machine.send.una else 0) ≡ false) i.3 far
-near-una CloseWait o m app slot n index hearing i order far = absurd hearing
-near-una Closed o m app slot n index hearing i order far = absurd hearing
+near-una Open o m seat n index hearing i order far = subst (λ (b : Bool). is_far index (if b then n.machine.send.una else 0) ≡ false) i.3 far
+near-una CloseWait o m seat n index hearing i order far = absurd hearing
+near-una Closed o m seat n index hearing i order far = absurd hearing
 
-start-is : (s : State) (o : Origin) (m : Numbering) (app slot : ℕ) (n : Now) → IsHearing s → SendsIn s o m app slot n → n.machine.send.start ≡ start_of o.seed n.machine.nth
-start-is SynSent o m app slot n hearing i = absurd hearing
-start-is SynRcvd o m app slot n hearing i = i.0.start
-start-is Open o m app slot n hearing i = i.0.start
-start-is CloseWait o m app slot n hearing i = absurd hearing
-start-is Closed o m app slot n hearing i = absurd hearing
+start-is : (s : State) (o : OwnFlows) (m : Numbering) (seat : Seat) (n : Now) → IsHearing s → SendsIn s o m seat n → n.machine.send.start ≡ start_of o.seed n.machine.nth
+start-is SynSent o m seat n hearing i = absurd hearing
+start-is SynRcvd o m seat n hearing i = i.0.start
+start-is Open o m seat n hearing i = i.0.start
+start-is CloseWait o m seat n hearing i = absurd hearing
+start-is Closed o m seat n hearing i = absurd hearing
 
 -- before a connection is answered nothing was admitted
-next-first : (s : State) (o : Origin) (m : Numbering) (app slot : ℕ) (n : Now) → s ≡ SynSent → SendsIn s o m app slot n → n.machine.send.nxt ≡ 1
-next-first SynSent o m app slot n e i = i.2.next
-next-first SynRcvd o m app slot n e i = i.2.next
-next-first Open o m app slot n e i = absurd cc
-next-first CloseWait o m app slot n e i = absurd cc
-next-first Closed o m app slot n e i = absurd cc
+next-first : (s : State) (o : OwnFlows) (m : Numbering) (seat : Seat) (n : Now) → s ≡ SynSent → SendsIn s o m seat n → n.machine.send.nxt ≡ 1
+next-first SynSent o m seat n e i = i.2.next
+next-first SynRcvd o m seat n e i = i.2.next
+next-first Open o m seat n e i = absurd cc
+next-first CloseWait o m seat n e i = absurd cc
+next-first Closed o m seat n e i = absurd cc
 
 -- ---- a step keeps it
 
@@ -405,14 +406,14 @@ module _ (H : Tag → Type 0) (nth : ℕ) (peer : ℕ × ℕ) where
   }
 
   -- that hears a packet
-  module _ (o : Origin) (m : Numbering) (app slot : ℕ) (n : Now) (h : RdpHead) (is : IsSender o m app slot n) (fed : n.machine.nth ≡ nth → n.machine.peer ≡ Some peer → IsFedWell H (start_of o.seed n.machine.nth) n.machine h) where
+  module _ (o : OwnFlows) (m : Numbering) (seat : Seat) (n : Now) (h : RdpHead) (is : IsSender o m seat n) (fed : n.machine.nth ≡ nth → n.machine.peer ≡ Some peer → IsFedWell H (start_of o.seed n.machine.nth) n.machine h) where
     -- where una passes, it passes what the packet's tag acknowledges
     passed : IsHearing n.machine.state → IsAcking h → IsWindowed H nth peer n.machine → (t : ℕ) → shown h.ack.0 n.machine.send.start n.machine.send.una ≡ Some t → n.machine.nth ≡ nth → n.machine.peer ≡ Some peer → HasCome H (t + 1)
     passed hearing acking i t shows e f =
         let well = fed e f in
-        let near = near-una n.machine.state o m app slot n well.tag.ack hearing is i.order well.near in
+        let near = near-una n.machine.state o m seat n well.tag.ack hearing is i.order well.near in
         let number : h.ack.0 ≡ number_of n.machine.send.start (pos well.tag.ack) =
-        well.number acking.acks acking.resets ∙ ap (λ s. number_of s (pos well.tag.ack)) (sym (start-is n.machine.state o m app slot n hearing is)) in
+        well.number acking.acks acking.resets ∙ ap (λ s. number_of s (pos well.tag.ack)) (sym (start-is n.machine.state o m seat n hearing is)) in
         let both : Some well.tag.ack ≡ Some t = sym (shown-near n.machine.send.start n.machine.send.una well.tag.ack h.ack.0 near number) ∙ shows in
         let same : well.tag.ack ≡ t = cc in
         inr (well.tag, well.is, omega (arith, same))
@@ -423,7 +424,7 @@ module _ (H : Tag → Type 0) (nth : ℕ) (peer : ℕ × ℕ) where
       order = rw (same.send.next, una) i.order;
       below = rw same.send.next (same.send.packets (λ index payload. index < n.machine.send.nxt) i.below);
       room = rw (same.send.next, una, window) i.room;
-      come = λ f g. let first = next-first n.machine.state o m app slot n e is in let order = i.order in inl (omega (arith, una, first, order));
+      come = λ f g. let first = next-first n.machine.state o m seat n e is in let order = i.order in inl (omega (arith, una, first, order));
     }
     windowed-shifts b same (shifts hearing acking una window peers) i =
         go (comes-acked (shown h.ack.0 n.machine.send.start n.machine.send.una) n.machine.send)
@@ -440,43 +441,43 @@ module _ (H : Tag → Type 0) (nth : ℕ) (peer : ℕ × ℕ) where
               come = λ e f. subst (HasCome H) (sym is_una) (passed hearing acking i t shows (sym same.nth ∙ e) (sym peers ∙ f));
             }
 
-    windowed-handed : (tag : Option Tag) (b : PlainBuffer) (time : ℕ) → IsWindowed H nth peer n.machine → IsWindowed H nth peer (handed h tag b time n.machine)
-    windowed-handed tag b time i = windowed-shifts (handed h tag b time n.machine) (same-heard h tag b n.machine _ (hears-handed h tag b time n.machine)) (shifts-handed h tag b time n.machine) i
+    windowed-handed : (tag : Option Tag) (b : PlainBuffer) (time : ℕ) → IsWindowed H nth peer n.machine → IsWindowed H nth peer (after_packet h tag b time n.machine)
+    windowed-handed tag b time i = windowed-shifts (after_packet h tag b time n.machine) (same-heard h tag b n.machine _ (hears-handed h tag b time n.machine)) (shifts-handed h tag b time n.machine) i
 
 -- ---- all of it
 
-pub keeping-kept : (o : Origin) (H : Tag → Type 0) (nth : ℕ) (peer : ℕ × ℕ) → IsKept o (acknowledging o H nth peer) (IsKeeping o H nth peer)
+pub keeping-kept : (o : OwnFlows) (H : Tag → Type 0) (nth : ℕ) (peer : ℕ × ℕ) → IsKept o (acknowledging o H nth peer) (IsKeeping o H nth peer)
 keeping-kept o H nth peer = record {
-  grows = λ m later app slot n g i. ((sender-kept o).grows m later app slot n g i.0, i.1);
-  connects = λ m app slot ordinal time c flags home asked. ((sender-kept o).connects m app slot ordinal time c flags home tt, windowed-made H nth peer _ refl refl refl);
-  accepts = λ m app slot ordinal time c flags h tag options home syn invited. ((sender-kept o).accepts m app slot ordinal time c flags h tag options home syn tt, windowed-made H nth peer _ refl refl refl);
-  early = λ m app slot n i e. (sender-kept o).early m app slot n i.0 e;
-  never = λ m app slot n i e. (sender-kept o).never m app slot n i.0 e;
-  rests = λ m app slot n i. ((sender-kept o).rests m app slot n i.0, windowed-still H nth peer n.machine (rested n.machine) (goes-rested n.machine).own (record { una = refl; window = refl; peer = refl }) i.1);
-  ticks = λ m app slot n time i. (
-    (sender-kept o).ticks m app slot n time i.0,
+  grows = λ m later s n g i. ((sender-kept o).grows m later s n g i.0, i.1);
+  connects = λ m s ordinal time c flags home asked. ((sender-kept o).connects m s ordinal time c flags home tt, windowed-made H nth peer _ refl refl refl);
+  accepts = λ m s ordinal time c flags h tag options home syn invited. ((sender-kept o).accepts m s ordinal time c flags h tag options home syn tt, windowed-made H nth peer _ refl refl refl);
+  early = λ m s n i e. (sender-kept o).early m s n i.0 e;
+  never = λ m s n i e. (sender-kept o).never m s n i.0 e;
+  rests = λ m s n i. ((sender-kept o).rests m s n i.0, windowed-still H nth peer n.machine (rested n.machine) (goes-rested n.machine).own (record { una = refl; window = refl; peer = refl }) i.1);
+  ticks = λ m s n time i. (
+    (sender-kept o).ticks m s n time i.0,
     windowed-still H nth peer n.machine (ticked time n.machine) (same-ways n.machine _ (ways-ticked time n.machine)) (still-ticked time n.machine) i.1,
   );
-  closes = λ m app slot n time i. (
-    (sender-kept o).closes m app slot n time i.0,
+  closes = λ m s n time i. (
+    (sender-kept o).closes m s n time i.0,
     windowed-still H nth peer n.machine (closing time n.machine) (same-ways n.machine _ (ways-closing time n.machine)) (still-closed n.machine.state time n.machine) i.1,
   );
-  makes = λ m app slot n time j job i. (
-    (sender-kept o).makes m app slot n time j job i.0,
+  makes = λ m s n time j job i. (
+    (sender-kept o).makes m s n time j job i.0,
     windowed-still H nth peer n.machine (sent j time n.machine) (goes-sent j time n.machine).own (still-sent j time n.machine) i.1,
   );
-  hears = λ m app slot n h tag b time fed shut i. ((sender-kept o).hears m app slot n h tag b time tt shut i.0, windowed-handed H nth peer o m app slot n h i.0 fed tag b time i.1);
-  opens = λ m app slot n h tag b time fed opening i. ((sender-kept o).opens m app slot n h tag b time tt opening i.0, windowed-handed H nth peer o m app slot n h i.0 fed tag b time i.1);
-  admits = λ m app slot n b time is_open room waits i. ((sender-kept o).admits m app slot n b time is_open room waits i.0, windowed-admits H nth peer n.machine b time room i.1);
-  delays = λ m app slot n payload is_open waits i. ((sender-kept o).delays m app slot n payload is_open waits i.0, i.1);
-  settles = λ m app slot n b time is_open room waits i. ((sender-kept o).settles m app slot n b time is_open room waits i.0, windowed-admits H nth peer n.machine b time room i.1);
-  drops = λ m app slot n shut i. ((sender-kept o).drops m app slot n shut i.0, i.1);
-  delivers = λ m app slot n b time e i. (
-    (sender-kept o).delivers m app slot n b time e i.0,
+  hears = λ m s n h tag b time fed shut i. ((sender-kept o).hears m s n h tag b time tt shut i.0, windowed-handed H nth peer o m s n h i.0 fed tag b time i.1);
+  opens = λ m s n h tag b time fed opening i. ((sender-kept o).opens m s n h tag b time tt opening i.0, windowed-handed H nth peer o m s n h i.0 fed tag b time i.1);
+  admits = λ m s n b time is_open room waits i. ((sender-kept o).admits m s n b time is_open room waits i.0, windowed-admits H nth peer n.machine b time room i.1);
+  delays = λ m s n payload is_open waits i. ((sender-kept o).delays m s n payload is_open waits i.0, i.1);
+  settles = λ m s n b time is_open room waits i. ((sender-kept o).settles m s n b time is_open room waits i.0, windowed-admits H nth peer n.machine b time room i.1);
+  drops = λ m s n shut i. ((sender-kept o).drops m s n shut i.0, i.1);
+  delivers = λ m s n b time e i. (
+    (sender-kept o).delivers m s n b time e i.0,
     windowed-still H nth peer n.machine _ (same-delivered _ n.machine _ (delivers-both time n.machine (delivers-open n.machine.state n.machine b e))) (still-delivering time n.machine) i.1,
   );
-  keeps = λ m app slot n b c e same i. (
-    (sender-kept o).keeps m app slot n b c e same i.0,
+  keeps = λ m s n b c e same i. (
+    (sender-kept o).keeps m s n b c e same i.0,
     windowed-still H nth peer n.machine _ (goes-kept-again c n.machine (delivers-open n.machine.state n.machine b e)).own (still-kept-again c n.machine) i.1,
   );
 }

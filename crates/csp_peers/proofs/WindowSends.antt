@@ -5,6 +5,7 @@ use Rattle.std.specs.Prelude.{⊤, ℤ, ◌+ℤ◌, if◌then◌else◌}
 use Rattle.std.specs.Option.{unwrap_or}
 use Rattle.std.proofs.lemmas.Bool.{or_parts}
 use Rattle.std.proofs.lemmas.List.{append_assoc}
+use Rattle.csp_base.specs.declared.seat.Seat.{Seat}
 use Rattle.csp_base.specs.Sequence.{number_of}
 use Rattle.csp_base.specs.declared.traces.Tag.{Tag}
 use Rattle.csp_base.proofs.Public.{wrapped_small}
@@ -27,7 +28,7 @@ use Rattle.csp_record.specs.declared.connections.Opening.{Opening}
 use Rattle.csp_route.specs.Routes.{Routes}
 use Rattle.csp_stack.specs.Config.{opening_state}
 use Rattle.csp_stack.specs.Readings.{is_checked}
-use Rattle.csp_stack.specs.Router.{Facts, Router, State, origin_of}
+use Rattle.csp_stack.specs.Router.{Facts, Router, State, flows_of}
 use Rattle.csp_stack.specs.Rules.{addressed, header_for}
 use Rattle.csp_stack.specs.Sending.{protected}
 use Rattle.csp_stack.specs.Turn.{asked_at, timed, told_at}
@@ -49,14 +50,13 @@ state_push s (x ∷ es) e = state_push (step_after router_steps s x) es e
 found_from : (f : Facts) (routes : Routes) (es before after : List Entry) (s : State) → es ≡ before ++ after → state_after router_steps (opening_router f routes) before ≡ record { facts = f; state = s } → AreFound (HadMachine f routes es) f s after
 found_from f routes es before [] s whole at = tt
 found_from f routes es before (e ∷ after) s whole at = (
-  λ app slot j few low owed. record {
+  λ seat j few low owed. record {
     before = before;
     turn = e;
     after = after;
     whole = whole;
-    app = app;
-    slot = slot;
-    there = ap (λ (r : Router). machine_at (timed r.state e.time).ports app slot) at;
+    seat = seat;
+    there = ap (λ (r : Router). machine_at (timed r.state e.time).ports seat) at;
   },
   found_from f routes es (before ++ e ∷ []) after (told_at f (asked_at f s e.time) e.time e.answer).state (whole ∙ sym (append_assoc before (e ∷ []) after))
       (state_push (opening_router f routes) before e ∙ ap (λ (r : Router). step_after router_steps r e) at),
@@ -114,8 +114,8 @@ checksum_of false b = refl
 
 abbrev window_aim : Facts → Routes → List Entry → (own peer : ℕ × ℕ) → Aim
 window_aim f routes es own peer = record {
-  is = IsKeeping (origin_of f) (HasHeard es peer) own.1 peer;
-  coming = acknowledging (origin_of f) (HasHeard es peer) own.1 peer;
+  is = IsKeeping (flows_of f) (HasHeard es peer) own.1 peer;
+  coming = acknowledging (flows_of f) (HasHeard es peer) own.1 peer;
   over = λ m app x down. ⊤;
   good = IsAllowedData f routes es own peer;
   hears = IsHeard es;
@@ -147,29 +147,29 @@ module _ (f : Facts) (routes : Routes) (es : List Entry) (flows : Flows) (own pe
         number = λ ack rst. ack_read flows own cur b tag.0 payload read (acks b heard tag.0 tag.1 tag.2) was.is_unwrapped was.is_parted ack rst ∙ ap (λ s. number_of s (pos tag.0.ack)) same;
       }
 
-  makes_allowed : (h : Past) (m : Numbering) (books : Books) (p : PlainPorts) (app slot time : ℕ) (j : Job) (b : Content) (c : Connection) → IsPart h (past es) → Tells (window_aim f routes es own peer).over f.apps m h books
-      → IsKeeping (origin_of f) (HasHeard es peer) own.1 peer m app slot (now_at p books app slot) → HadMachine f routes es (machine_at p app slot) → job_of time (machine_at p app slot) ≡ Some j
-      → IsAllowedData f routes es own peer (addressed f c (terms_at p app slot) (made_in j time app slot b p))
-  makes_allowed h m books p app slot time j b c part tells is had owed t filling of =
-      let r : PlainRdp = machine_at p app slot in
+  makes_allowed : (h : Past) (m : Numbering) (books : Books) (p : PlainPorts) (seat : Seat) (time : ℕ) (j : Job) (b : Content) (c : Connection) → IsPart h (past es) → Tells (window_aim f routes es own peer).over f.apps m h books
+      → IsKeeping (flows_of f) (HasHeard es peer) own.1 peer m seat (now_at p books seat) → HadMachine f routes es (machine_at p seat) → job_of time (machine_at p seat) ≡ Some j
+      → IsAllowedData f routes es own peer (addressed f c (terms_at p seat) (made_in j time seat b p))
+  makes_allowed h m books p seat time j b c part tells is had owed t filling of =
+      let r : PlainRdp = machine_at p seat in
       let s : Says = says j time r in
       let head : RdpHead = head_for s r in
-      let x : Content = made_in j time app slot b p in
-      let hdr : Header = header_for f c (terms_at p app slot) in
+      let x : Content = made_in j time seat b p in
+      let hdr : Header = header_for f c (terms_at p seat) in
       let tags : ◌≡◌ {A = Option Tag} (Some (tag_for s r)) (Some t) = ap (λ t. t.tag) (sym (protected_trace (is_checked hdr) x)) ∙ filling.tagged in
       let tag_is : tag_for s r ≡ t = ap (λ (o : Option Tag). unwrap_or o (tag_for s r)) tags in
       let index : s.index ≡ t.index = ap (λ (u : Tag). u.index) tag_is in
       let nth : r.nth ≡ own.1 = ap (λ (u : Tag). u.nth) tag_is ∙ ap (λ (k : ℕ × ℕ). k.1) of in
-      let made : (addressed f c (terms_at p app slot) x).payload ≡ with_checksum (is_checked (header_at (addressed f c (terms_at p app slot) x).header)) (s.bytes ++ head_bytes head) =
+      let made : (addressed f c (terms_at p seat) x).payload ≡ with_checksum (is_checked (header_at (addressed f c (terms_at p seat) x).header)) (s.bytes ++ head_bytes head) =
       checksum_of (is_checked hdr) x ∙ ap (λ t. with_checksum t (s.bytes ++ head_bytes head)) (sym (checked_flag hdr)) in
       let filled : ◌≡◌ {A = List ℕ × RdpHead} (s.bytes, head) (filling.bytes, filling.head) =
-      filled_once (is_checked (header_at (addressed f c (terms_at p app slot) x).header)) s.bytes filling.bytes head filling.head
+      filled_once (is_checked (header_at (addressed f c (terms_at p seat) x).header)) s.bytes filling.bytes head filling.head
       (number_low r.send.start (pos s.index)) (ack_low (s.flags == SYN) (number_of r.recv.start (pos s.ack)) (number_low r.recv.start (pos s.ack))) filling.seq_range filling.ack_range (sym made ∙ filling.payload) in
       let carries : is_data head s.bytes ≡ true = subst (λ (k : List ℕ × RdpHead). is_data k.1 k.0 ≡ true) (sym filled) filling.is_data in
-      let told = (sender-says (origin_of f) m app slot (now_at p books app slot) time j is.0 owed).carries carries in
-      let y : Opening = opening_on slot (h.ends app slot) (Some r.nth, r.peer) in
-      let flow : IsFlowOf es app r.nth y = opening_flow es h app r.nth y part (tells.back app slot (Some r.nth, r.peer) told.3.opened) refl in
-      let with_peer : r.peer ≡ Some peer = peers app y (subst (λ k. IsFlowOf es app k y) nth flow) in
+      let told = (sender-says (flows_of f) m seat (now_at p books seat) time j is.0 owed).carries carries in
+      let y : Opening = opening_on seat (h.ends seat) (Some r.nth, r.peer) in
+      let flow : IsFlowOf es seat.app r.nth y = opening_flow es h seat.app r.nth y part (tells.back seat (Some r.nth, r.peer) told.3.opened) refl in
+      let with_peer : r.peer ≡ Some peer = peers seat.app y (subst (λ k. IsFlowOf es seat.app k y) nth flow) in
       record {
         machine = r;
         had = had;
@@ -180,15 +180,15 @@ module _ (f : Facts) (routes : Routes) (es : List Entry) (flows : Flows) (own pe
 
   window_is_aim : IsAim (window_aim f routes es own peer) f (past es)
   window_is_aim = record {
-    ports = ports_kept (origin_of f) (acknowledging (origin_of f) (HasHeard es peer) own.1 peer) (IsKeeping (origin_of f) (HasHeard es peer) own.1 peer) (keeping-kept (origin_of f) (HasHeard es peer) own.1 peer);
-    ended = λ m app slot n how is e. tt;
-    plain = λ m app slot ordinal down. tt;
+    ports = ports_kept (flows_of f) (acknowledging (flows_of f) (HasHeard es peer) own.1 peer) (IsKeeping (flows_of f) (HasHeard es peer) own.1 peer) (keeping-kept (flows_of f) (HasHeard es peer) own.1 peer);
+    ended = λ m s n how is e. tt;
+    plain = λ m s ordinal down. tt;
     grows = λ m m' app x down on over. tt;
-    never_plain = λ m app slot n is e. sender_not n.machine.state (origin_of f) m app slot n is.0 e;
+    never_plain = λ m s n is e. sender_not n.machine.state (flows_of f) m s n is.0 e;
     unmarked = λ mark b e none comes. untagged f routes es own peer b none;
     unreliable = λ b none plain. untagged f routes es own peer b none;
     wishes = λ p r comes reliable own chosen. tt;
-    makes = λ h m books p app slot time j b c part tells o there is had job. makes_allowed h m books p app slot time j b c part tells is had job;
+    makes = λ h m books p s time j b c part tells o there is had job. makes_allowed h m books p s time j b c part tells is had job;
     feeds = λ b payload r read heard was fresh nth of. fed_well b payload r read heard was fresh nth of;
     asks = λ b payload read heard was syn. tt;
   }

@@ -2,9 +2,10 @@
 -- peer's flow. Indices less than half of all numbers apart show each other, so that no packet of such a flow is stale.
 use Rattle.std.specs.Prelude.{◌≡◌, ◌≤◌, ◌<◌, ◌+◌, ℕ, None, Some, length, All, ⊤}
 use Rattle.std.specs.Option.{option_to_list}
+use Rattle.csp_base.specs.declared.seat.Seat.{Seat}
 use Rattle.csp_base.specs.declared.traces.Tag.{Tag}
 use Rattle.csp_conn.specs.declared.slot.Connection.{Connection}
-use Rattle.csp_ports.specs.declared.origin.Origin.{Origin}
+use Rattle.csp_ports.specs.declared.flows.OwnFlows.{OwnFlows}
 use Rattle.csp_rdp.specs.Jobs.{says}
 use Rattle.csp_rdp.specs.Machine.{flow_of, una_of}
 use Rattle.csp_rdp.specs.declared.answers.State.{State}
@@ -29,7 +30,7 @@ pub record IsAddressable (top : ℕ) (c : Connection) (bits : ℕ) : Type 0 wher
 
 -- what bounds a connection's own indices: una is at most the next one, which every packet in the window is below; and no more was admitted than the
 -- log tells as sent, less what waits
-pub record IsBounded (top : ℕ) (o : Origin) (n : Now) : Type 0 where
+pub record IsBounded (top : ℕ) (o : OwnFlows) (n : Now) : Type 0 where
   pub node : n.machine.node ≡ o.node
   pub order : n.machine.send.una ≤ n.machine.send.nxt
   pub below : All (λ p. p.index < n.machine.send.nxt) n.machine.send.packets
@@ -37,8 +38,8 @@ pub record IsBounded (top : ℕ) (o : Origin) (n : Now) : Type 0 where
   pub addressable : IsAddressable top n.connection n.flags
 
 -- what is known of a reliable connection as one that makes packets
-abbrev pub IsMaker : (top : ℕ) → Origin → Numbering → ℕ → ℕ → Now → Type 0
-IsMaker top o m app slot n = IsSender o m app slot n × IsBounded top o n
+abbrev pub IsMaker : (top : ℕ) → OwnFlows → Numbering → Seat → Now → Type 0
+IsMaker top o m seat n = IsSender o m seat n × IsBounded top o n
 
 -- whatever packets are handed to the connections of a node, each one that opens a connection and each connection that is asked for is such
 abbrev pub addressable : (top : ℕ) → Coming
@@ -78,8 +79,8 @@ pub record IsPeered (flows : Flows) (R : Connection → ℕ × ℕ → Type 0) (
   pub alone : n.machine.peer ≡ None → IsAlone n.machine.state
 
 -- what is known of a reliable connection as one that hears packets
-abbrev pub IsHearer : Flows → (Connection → ℕ × ℕ → Type 0) → Numbering → ℕ → ℕ → Now → Type 0
-IsHearer flows R m app slot n = IsReceiver flows m app slot n × IsPeered flows R n
+abbrev pub IsHearer : Flows → (Connection → ℕ × ℕ → Type 0) → Numbering → Seat → Now → Type 0
+IsHearer flows R m seat n = IsReceiver flows m seat n × IsPeered flows R n
 
 -- a packet with a tag of the right flow comes to each connection, whose index is bounded; and one that opens a connection is of the right flow, and
 -- shows its start

@@ -1,5 +1,6 @@
 -- How far a data packet may be ahead of the reliable connection that it is handed to: as far as its sender's window.
 use Rattle.std.specs.Prelude.{◌≡◌, ℕ, ◌+◌, ◌≤◌, ◌<◌, true, Some, List, [], ◌∷◌, ◌++◌, slice_get}
+use Rattle.csp_base.specs.declared.seat.Seat.{Seat}
 use Rattle.csp_base.specs.declared.traces.Tag.{Tag}
 use Rattle.csp_buffer.specs.Content.{Content}
 use Rattle.csp_deck.specs.Runs.{state_after}
@@ -61,9 +62,8 @@ pub record HadMachine (f : Facts) (routes : Routes) (es : List Entry) (m : Plain
   pub turn : Entry
   pub after : List Entry
   pub whole : es ≡ before ++ turn ∷ after
-  pub app : ℕ
-  pub slot : ℕ
-  pub there : machine_at (timed (state_after router_steps (opening_router f routes) before).state turn.time).ports app slot ≡ m
+  pub seat : Seat
+  pub there : machine_at (timed (state_after router_steps (opening_router f routes) before).state turn.time).ports seat ≡ m
 
 -- the router of a flow's node had the flow's connection, with this peer and this window
 pub record HadWindow (scene : PlainScene) (r : PlainRecord) (flow peer : ℕ × ℕ) (window : ℕ) : Type 0 where
