@@ -1,12 +1,14 @@
 -- A turn of a router answers an application, or leaves something due to it, only of what was due to it and of what it asked in that turn.
-use Rattle.std.proofs.Common.{◌≡◌, ℕ, ◌+◌, ◌/◌, ◌%◌, ◌<◌, ◌≤◌, ◌==◌, Bool, true, false, cond, Option, Some, None, List, [], ◌∷◌, ◌++◌, refl, sym, subst, arith}
-use Rattle.std.specs.Prelude.{if◌then◌else◌, nat_lt, Result, Ok, Err, ⊤}
+use Rattle.std.proofs.Common.{◌≡◌, ℕ, ◌+◌, ◌<◌, ◌≤◌, ◌==◌, Bool, true, false, cond, Option, Some, None, List, [], ◌∷◌, ◌++◌, refl, sym, subst, arith}
+use Rattle.std.specs.Prelude.{if◌then◌else◌, Result, Ok, Err, ⊤}
 use Rattle.std.specs.List.{AllByRecursion, position}
 use Rattle.std.specs.Option.{option_map}
+use Rattle.csp_base.specs.Seat.{seat}
+use Rattle.csp_base.specs.declared.seat.Seat.{Seat}
 use Rattle.csp_buffer.specs.Content.{Content}
 use Rattle.csp_buffer.specs.PlainBuffer.{PlainBuffer}
-use Rattle.csp_conn.specs.Opening.{first_free, is_refused, own_port_of}
-use Rattle.csp_conn.specs.PlainConns.{slot_at}
+use Rattle.csp_conn.specs.Opening.{free_seat}
+use Rattle.csp_conn.specs.PlainConns.{seat_of, slot_at}
 use Rattle.csp_conn.specs.Slots.{is_between}
 use Rattle.csp_base.specs.declared.limits.TheConstants.{SLOTS, ALL_SLOTS}
 use Rattle.csp_conn.specs.declared.slot.Connection.{Connection}
@@ -32,11 +34,11 @@ use Rattle.csp_log.specs.declared.shown.ItemShown.TheVariants as item
 use Rattle.csp_log.specs.declared.shown.OpShown.{OpShown}
 use Rattle.csp_log.specs.declared.shown.OpShown.TheVariants as op
 use Rattle.csp_ports.specs.Asking.{answered, is_reliable}
+use Rattle.csp_ports.specs.Packets.{submitting}
 use Rattle.csp_ports.specs.PlainPorts.{PlainPorts, anywhere, is_closing, machine_at, ports_of, terms_at, terms_of}
 use Rattle.csp_ports.specs.Tasks.{delivered, kept_again, made_in, making, next_task, turned}
 use Rattle.csp_ports.specs.declared.handing.Invitation.{Invitation}
 use Rattle.csp_ports.specs.declared.owed.Owed.{Owed}
-use Rattle.csp_ports.specs.declared.request.Request.{Request}
 use Rattle.csp_ports.specs.declared.task.Task.{Task}
 use Rattle.csp_ports.specs.declared.task.Task.TheVariants as task
 use Rattle.csp_ports.specs.Kept.{wishes}
@@ -50,18 +52,16 @@ use Rattle.csp_route.specs.declared.row.Row.{Row}
 use Rattle.csp_service.specs.Answers as services
 use Rattle.csp_service.specs.declared.answers.Served.{Served}
 use Rattle.csp_service.specs.declared.answers.Served.TheVariants.{NoService, Refused, Reply, Silent}
-use Rattle.csp_socket.specs.Bound.{owner_of}
-use Rattle.csp_socket.specs.declared.sockets.TheConstants.{BINDABLE_PORTS}
 use Rattle.csp_service.specs.declared.stats.Count.TheVariants as count
 use Rattle.csp_stack.specs.Comes.{heard_at_port, heard_at_socket, heard_elsewhere}
 use Rattle.csp_stack.specs.Config.{opening_state}
 use Rattle.csp_stack.specs.Counting.{came_in, counting, was_full}
 use Rattle.csp_stack.specs.Readings.{is_checked, is_here, is_pushed, is_secured, item_in, buffer_in}
-use Rattle.csp_stack.specs.Router.{Facts, Leaving, State, at_rest, origin_of}
-use Rattle.csp_stack.specs.Rules.{◌>>=◌, Arrival, Decided, Left, Ruling, accepting, addressed, answer_flags, at_connection, by_answer, by_connection, by_mark, by_row, by_service, by_slot, by_socket, connection_of, for_this_node, forwarded, heard, invitation_of, inviting, is_lacking, is_mixed, made_on, not_reliable, not_secured, of_no_connection, on_connection, opening, owner_for, packet_in, requested, sent, sent_by, served, to_connection, to_machine, to_no_socket, to_slot, with_payload, without_checksum}
+use Rattle.csp_stack.specs.Router.{Facts, Leaving, State, at_rest, flows_of, router}
+use Rattle.csp_stack.specs.Rules.{◌>>=◌, Arrival, Decided, Left, Ruling, accepting, addressed, answer_flags, at_connection, by_answer, by_connection, by_mark, by_row, by_service, by_slot, by_socket, connection_of, for_this_node, forwarded, heard, invitation_of, inviting, is_lacking, is_mixed, made_on, not_reliable, not_secured, of_no_connection, on_connection, opening, owner_for, packet_in, requested, sent, sent_by, served, to_connection, to_machine, to_no_socket, to_slot, with_payload, without_checksum, sent_on}
 use Rattle.csp_stack.specs.Serving.{facts_of, reply_in, with_facts}
 use Rattle.csp_stack.specs.Sources.{place_with_work, source_at}
-use Rattle.csp_stack.specs.Told.{Told, discarded, kept, leaving, unchanged, with_ports}
+use Rattle.csp_stack.specs.Told.{Told, discarded, kept, leaving, ported, unchanged, with_ports}
 use Rattle.csp_stack.proofs.Public.{by_rest, heard_here}
 use Rattle.csp_stack.specs.Turn.{asked_at, asked_by, asks_at, brought, delivering, giving, jobs_by, no_room, plan_by, plan_for, plan_of, pushing, replying, timed, told_at, turn_of, work_at, work_found}
 use Rattle.csp_stack.specs.declared.plan.Plan.{Plan}
@@ -74,7 +74,7 @@ use Rattle.csp_prefix.proofs.Public.{task_there}
 use Rattle.csp_blobs.specs.Asking as asking
 use Rattle.csp_blobs.specs.Asking.{AnswerNoMore, answered_in, asked_in, is_note}
 use Rattle.csp_blobs.proofs.AnswerItems.{counted, counted_few, counts_append, none_counts, one_counts}
-use Rattle.csp_blobs.proofs.AnswerPorts.{NoMore, accepts, answers_one, binds_by, both, connects_to, delivers, due, ends_by, hands, invites, machines, stays, submits_in, tells, times}
+use Rattle.csp_blobs.proofs.AnswerPorts.{NoMore, accepts, answers_one, binds, both, connects_to, delivers, due, ends_by, hands, invites, machines, one_of, stays, submits_in, tells, times}
 
 -- ---- what a router hears leaves no more due
 
@@ -89,14 +89,6 @@ rules : (s : State) (r : Ruling) (next : Arrival → Told) → RulesSo s r → (
 rules s (Decided t) next h k = h
 rules s (Left p) next h k = k p
 
-one_rule : (b : Bool) (s : State) (x y : Ruling) → RulesSo s x → RulesSo s y → RulesSo s (if b then x else y)
-one_rule true s x y h k = h
-one_rule false s x y h k = k
-
-one_told : (b : Bool) (s : State) (x y : Told) → Quiet s x → Quiet s y → Quiet s (if b then x else y)
-one_told true s x y h k = h
-one_told false s x y h k = k
-
 sent_so : (own : Bool) (row : Option Row) (s : State) (b : Content) → Quiet s (sent_by own row s b)
 sent_so true row s b = stays s.ports
 sent_so false None s b = stays s.ports
@@ -107,48 +99,48 @@ sends f s b = sent_so ((header_at b.header).dst == f.addr) (route_of s.routes (h
 
 forwards : (row : Option Row) (s : State) (p : Arrival) → Quiet s (forwarded row s p)
 forwards None s p = stays s.ports
-forwards (Some row) s p = one_told (row.iface == p.mark) s (discarded s why.BackOut p.buffer) (leaving s (by_row row p.buffer)) (stays s.ports) (stays s.ports)
+forwards (Some row) s p = one_of (Quiet s) (row.iface == p.mark) (discarded s why.BackOut p.buffer) (leaving s (by_row row p.buffer)) (stays s.ports) (stays s.ports)
 
 payload_so : (o : Option (List ℕ)) (s : State) (p : Arrival) → RulesSo s (with_payload o s p)
 payload_so None s p = stays s.ports
 payload_so (Some bytes) s p = tt
 
-machine_so : (o : Option (List ℕ × RdpHead)) (s : State) (app slot time : ℕ) (p : Arrival) → slot < SLOTS → Quiet s (to_machine o s app slot time p)
-machine_so None s app slot time p low = stays s.ports
-machine_so (Some read) s app slot time p low = hands s.ports app slot read.1 (record p.buffer { payload = read.0 }) time low
+machine_so : (o : Option (List ℕ × RdpHead)) (s : State) (seat : Seat) (time : ℕ) (p : Arrival) → seat.slot < SLOTS → Quiet s (to_machine o s seat time p)
+machine_so None s seat time p low = stays s.ports
+machine_so (Some read) s seat time p low = hands s.ports seat read.1 (record p.buffer { payload = read.0 }) time low
 
-connection_so : (s : State) (app slot time : ℕ) (p : Arrival) → slot < SLOTS → Quiet s (at_connection (app, slot) s time p)
-connection_so s app slot time p low =
-    one_told (is_mixed s (app, slot) p) s (discarded s why.Mixed p.buffer)
-    (if is_lacking s p then discarded s why.Required p.buffer else to_connection s app slot time p)
+connection_so : (s : State) (seat : Seat) (time : ℕ) (p : Arrival) → seat.slot < SLOTS → Quiet s (at_connection seat s time p)
+connection_so s seat time p low =
+    one_of (Quiet s) (is_mixed s seat p) (discarded s why.Mixed p.buffer)
+    (if is_lacking s p then discarded s why.Required p.buffer else to_connection s seat time p)
     (stays s.ports)
-    (one_told (is_lacking s p) s (discarded s why.Required p.buffer) (to_connection s app slot time p) (stays s.ports)
-    (one_told (is_reliable p.head.flags.0) s (to_machine (parted p.buffer.payload) s app slot time p) (leaving s (to_slot app slot p.buffer))
-    (machine_so (parted p.buffer.payload) s app slot time p low) (stays s.ports)))
+    (one_of (Quiet s) (is_lacking s p) (discarded s why.Required p.buffer) (to_connection s seat time p) (stays s.ports)
+    (one_of (Quiet s) (is_reliable p.head.flags.0) (to_machine (parted p.buffer.payload) s seat time p) (leaving s (to_slot seat p.buffer))
+    (machine_so (parted p.buffer.payload) s seat time p low) (stays s.ports)))
 
-found_so : (o : Option ℕ) (s : State) (time : ℕ) (p : Arrival) → RulesSo s (by_connection (option_map (λ place. (place / SLOTS, place % SLOTS)) o) s time p)
+found_so : (o : Option ℕ) (s : State) (time : ℕ) (p : Arrival) → RulesSo s (by_connection (option_map seat_of o) s time p)
 found_so None s time p = tt
-found_so (Some place) s time p = connection_so s (place / SLOTS) (place % SLOTS) time p (omega arith)
+found_so (Some place) s time p = connection_so s (seat_of place) time p (omega arith)
 
-accepting_so : (slot : Option ℕ) (s : State) (app : ℕ) (p : Arrival) → Quiet s (accepting slot s app p)
-accepting_so None s app p = stays s.ports
-accepting_so (Some slot) s app p = accepts s.ports app slot (connection_of p.head) p.head.prio (answer_flags p.head)
+accepting_so : (free : Option Seat) (s : State) (p : Arrival) → Quiet s (accepting free s p)
+accepting_so None s p = stays s.ports
+accepting_so (Some seat) s p = accepts s.ports seat (connection_of p.head) p.head.prio (answer_flags p.head)
 
-inviting_so : (i : Result Invitation Discard) (slot : Option ℕ) (f : Facts) (s : State) (app time : ℕ) (p : Arrival) → Quiet s (inviting i slot f s app time p)
-inviting_so (Err reason) slot f s app time p = stays s.ports
-inviting_so (Ok i) None f s app time p = stays s.ports
-inviting_so (Ok i) (Some slot) f s app time p = invites (origin_of f) s.ports app slot (connection_of p.head) p.head.prio (answer_flags p.head) i time
+inviting_so : (i : Result Invitation Discard) (free : Option Seat) (f : Facts) (s : State) (time : ℕ) (p : Arrival) → Quiet s (inviting i free (router f s) time p)
+inviting_so (Err reason) free f s time p = stays s.ports
+inviting_so (Ok i) None f s time p = stays s.ports
+inviting_so (Ok i) (Some seat) f s time p = invites (flows_of f) s.ports seat (connection_of p.head) p.head.prio (answer_flags p.head) i time
 
 opening_so : (app : ℕ) (f : Facts) (s : State) (time : ℕ) (p : Arrival) → Quiet s (opening app f s time p)
 opening_so app f s time p =
-    let slot : Option ℕ = first_free s.ports.conns app in
-    one_told (is_reliable p.head.flags.0) s (inviting (invitation_of p.buffer) slot f s app time p) (accepting slot s app p)
-    (inviting_so (invitation_of p.buffer) slot f s app time p) (accepting_so slot s app p)
+    let free : Option Seat = free_seat s.ports.conns app in
+    one_of (Quiet s) (is_reliable p.head.flags.0) (inviting (invitation_of p.buffer) free (router f s) time p) (accepting free s p)
+    (inviting_so (invitation_of p.buffer) free f s time p) (accepting_so free s p)
 
 socket_so : (owner : Option (ℕ × ℕ)) (f : Facts) (s : State) (time : ℕ) (p : Arrival) → RulesSo s (by_socket owner f s time p)
 socket_so None f s time p = tt
 socket_so (Some owner) f s time p =
-    one_told (is_lacking s p) s (discarded s why.Required p.buffer) (opening owner.0 f s time p) (stays s.ports) (opening_so owner.0 f s time p)
+    one_of (Quiet s) (is_lacking s p) (discarded s why.Required p.buffer) (opening owner.0 f s time p) (stays s.ports) (opening_so owner.0 f s time p)
 
 answer_so : (a : Served) (reply : List ℕ) (f : Facts) (s : State) (p : Arrival) → Quiet s (by_answer a reply f s p)
 answer_so Reply reply f s p = sends f s (reply_in f p.head p.buffer reply)
@@ -164,7 +156,7 @@ service_so f s time p =
 hears_elsewhere : (f : Facts) (s : State) (time : ℕ) (p : Arrival) → Quiet s (heard_elsewhere f s time p)
 hears_elsewhere f s time p =
     rules s (not_reliable s p) (λ q. by_service f s time q)
-    (one_rule (is_reliable p.head.flags.0) s (Decided (discarded s why.NoSocket p.buffer)) (Left p) (stays s.ports) tt) (λ q. service_so f s time q)
+    (one_of (RulesSo s) (is_reliable p.head.flags.0) (Decided (discarded s why.NoSocket p.buffer)) (Left p) (stays s.ports) tt) (λ q. service_so f s time q)
 
 hears_at_socket : (f : Facts) (s : State) (time : ℕ) (p : Arrival) → Quiet s (heard_at_socket f s time p)
 hears_at_socket f s time p =
@@ -178,36 +170,36 @@ hears_at_port f s time p =
 hears_rest : (f : Facts) (s : State) (time : ℕ) (p : Arrival) → Quiet s (by_rest f s time p)
 hears_rest f s time p =
     rules s (without_checksum s p) (λ q. heard_at_port f s time q)
-    (one_rule (is_checked p.head) s (with_payload (payload_of p.buffer.payload) s p) (Left p) (payload_so (payload_of p.buffer.payload) s p) tt)
+    (one_of (RulesSo s) (is_checked p.head) (with_payload (payload_of p.buffer.payload) s p) (Left p) (payload_so (payload_of p.buffer.payload) s p) tt)
     (λ q. hears_at_port f s time q)
 
 hears_here : (f : Facts) (s : State) (time : ℕ) (p : Arrival) → Quiet s (heard_here f s time p)
 hears_here f s time p =
     rules s (not_secured s p) (λ q. by_rest f s time q)
-    (one_rule (is_secured p.head) s (Decided (discarded (counting s p.mark count.AuthErrors 1) why.Refused p.buffer)) (Left p) (stays s.ports) tt)
+    (one_of (RulesSo s) (is_secured p.head) (Decided (discarded (counting s p.mark count.AuthErrors 1) why.Refused p.buffer)) (Left p) (stays s.ports) tt)
     (λ q. hears_rest f s time q)
 
 hears : (f : Facts) (s : State) (time : ℕ) (p : Arrival) → Quiet s (heard f s time p)
 hears f s time p =
     rules s (for_this_node f s p) (λ q. heard_here f s time q)
-    (one_rule (is_here f.addr p.head) s (Left p) (Decided (forwarded (route_of s.routes p.head.dst) s p)) tt (forwards (route_of s.routes p.head.dst) s p))
+    (one_of (RulesSo s) (is_here f.addr p.head) (Left p) (Decided (forwarded (route_of s.routes p.head.dst) s p)) tt (forwards (route_of s.routes p.head.dst) s p))
     (λ q. hears_here f s time q)
 
 -- ---- what an application hands over leaves one more due where it asks, and else no more
 
-on_connection_so : (reliable : Bool) (c : Connection) (f : Facts) (s : State) (app slot time : ℕ) (b : Content)
-    → Quiet s (on_connection reliable c f s app slot time b)
-on_connection_so false c f s app slot time b = sends f s (addressed f c (terms_at s.ports app slot) b)
-on_connection_so true c f s app slot time b = submits_in (machine_at s.ports app slot).state s.ports app slot b time
+on_connection_so : (c : Connection) (f : Facts) (s : State) (seat : Seat) (time : ℕ) (b : Content) → Quiet s (on_connection c (router f s) seat time b)
+on_connection_so c f s seat time b =
+    one_of (Quiet s) (is_reliable (terms_at s.ports seat).flags) (ported s (submitting s.ports seat b time)) (sent_on c (router f s) seat b)
+    (submits_in (machine_at s.ports seat).state s.ports seat b time) (sends f s (addressed f c (terms_at s.ports seat) b))
 
-by_slot_so : (x : Slot) (f : Facts) (s : State) (app slot time : ℕ) (b : Content) → Quiet s (by_slot x f s app slot time b)
-by_slot_so has.Free f s app slot time b = stays s.ports
-by_slot_so has.Held f s app slot time b = stays s.ports
-by_slot_so (has.Open c) f s app slot time b = on_connection_so (is_reliable (terms_at s.ports app slot).flags) c f s app slot time b
+by_slot_so : (x : Slot) (f : Facts) (s : State) (seat : Seat) (time : ℕ) (b : Content) → Quiet s (by_slot x (router f s) seat time b)
+by_slot_so has.Free f s seat time b = stays s.ports
+by_slot_so has.Held f s seat time b = stays s.ports
+by_slot_so (has.Open c) f s seat time b = on_connection_so c f s seat time b
 
-by_mark_so : (unmarked : Bool) (f : Facts) (s : State) (app mark time : ℕ) (b : Content) → Quiet s (by_mark unmarked f s app mark time b)
-by_mark_so true f s app mark time b = sends f s b
-by_mark_so false f s app mark time b = by_slot_so (slot_at s.ports.conns app mark) f s app mark time b
+by_mark_so : (unmarked : Bool) (f : Facts) (s : State) (seat : Seat) (time : ℕ) (b : Content) → Quiet s (by_mark unmarked (router f s) seat time b)
+by_mark_so true f s seat time b = sends f s b
+by_mark_so false f s seat time b = by_slot_so (slot_at s.ports.conns seat) f s seat time b
 
 -- what an item asks counts for its application alone
 abbrev asked_of : (is_its : Bool) → ItemShown → ℕ
@@ -218,11 +210,10 @@ quiet_served f s t a app i h = omega (arith, h a)
 
 requests : (n : Note) (f : Facts) (s : State) (a app time : ℕ) → IsRequest n
     → due a (requested f s app time n).state.ports ≤ due a s.ports + asked_of (app == a) (item.Note n)
-requests (note.Bind port need) f s a app time h = binds_by (nat_lt port BINDABLE_PORTS) (owner_of s.ports.bound port) s.ports app port need a
+requests (note.Bind port need) f s a app time h = binds s.ports app port need a
 requests (note.Connect slot dest port prio flags from) f s a app time h =
-    let r : Request = record { slot = slot; dest = dest; port = port; prio = prio; flags = flags; from = from } in
-    connects_to (slot_at s.ports.conns app slot) (is_refused s.ports.conns dest from) (own_port_of s.ports.conns dest from) (origin_of f) s.ports app r time h a
-requests (note.Close slot) f s a app time h = ends_by (is_closing (terms_at s.ports app slot).wish) s.ports app slot time h a
+    connects_to (flows_of f) s.ports (record { seat = seat app slot; dest = dest; port = port; prio = prio; flags = flags; from = from }) time h a
+requests (note.Close slot) f s a app time h = ends_by (is_closing (terms_at s.ports (seat app slot)).wish) s.ports (seat app slot) time h a
 requests note.Bound f s a app time h = absurd h
 requests (note.Connected slot) f s a app time h = absurd h
 requests (note.Refused why) f s a app time h = absurd h
@@ -232,7 +223,7 @@ requests (note.Down slot) f s a app time h = absurd h
 serves : (i : ItemShown) (f : Facts) (s : State) (a app time : ℕ) → IsUpItem i
     → due a (served f s time app i).state.ports ≤ due a s.ports + asked_of (app == a) i
 serves (item.Packet mark b) f s a app time up =
-    quiet_served f s (by_mark (mark == UNMARKED) f s app mark time b) a app (item.Packet mark b) (by_mark_so (mark == UNMARKED) f s app mark time b)
+    quiet_served f s (by_mark (mark == UNMARKED) (router f s) (seat app mark) time b) a app (item.Packet mark b) (by_mark_so (mark == UNMARKED) f s (seat app mark) time b)
 serves (item.Note n) f s a app time up = requests n f s a app time up
 serves (item.Frame frame) f s a app time up = absurd up
 
@@ -333,44 +324,44 @@ module _ (f : Facts) (a : ℕ) where
       (no_room (until s time (plan.Reply k)) (packet_in (Some i))).state.ports refl (back_so (until s time (plan.Reply k)) (packet_in (Some i)))
   turn_reply k (o ∷ os) s time _ e fits = absurd fits
 
-  turn_tell : (app slot : ℕ) (s : State) (time : ℕ) (x : AnswerShown) → Turns s time (plan.Tell app slot) x
-  turn_tell app slot s time x =
-      evens_quiet (op.Push (queue.Down app) (item.Note (note.Down slot))) x s.ports (ports_after s time (plan.Tell app slot) x) (pushed_none (queue.Down app) (item.Note (note.Down slot)) x refl)
-      (pushed_so s.ports (is_pushed x) _ _ (tells app slot s.ports) (back_so (until s time (plan.Tell app slot)) (packet_in (item_in x))))
+  turn_tell : (seat : Seat) (s : State) (time : ℕ) (x : AnswerShown) → Turns s time (plan.Tell seat) x
+  turn_tell seat s time x =
+      evens_quiet (op.Push (queue.Down seat.app) (item.Note (note.Down seat.slot))) x s.ports (ports_after s time (plan.Tell seat) x) (pushed_none (queue.Down seat.app) (item.Note (note.Down seat.slot)) x refl)
+      (pushed_so s.ports (is_pushed x) _ _ (tells seat s.ports) (back_so (until s time (plan.Tell seat)) (packet_in (item_in x))))
 
-  turn_deliver : (app slot : ℕ) (s : State) (time : ℕ) (x : AnswerShown) → slot < SLOTS → Turns s time (plan.Deliver app slot) x
-  turn_deliver app slot s time x low =
-      let t : State = until s time (plan.Deliver app slot) in
-      let q : PlainPorts = turned app slot s.ports in
-      let taken : NoMore s.ports t.ports = machines q app slot (Some (without_delivery (machine_at q app slot))) in
-      evens_quiet (delivering (delivery (machine_at s.ports app slot)) app slot) x s.ports (ports_after s time (plan.Deliver app slot) x) (none_put (delivery (machine_at s.ports app slot)))
-      (pushed_so s.ports (is_pushed x) _ _ (both s.ports t.ports (delivered time app slot t.ports).ports taken (delivers time app slot t.ports low))
-      (brought_so s.ports t (λ p. unchanged (with_ports t (kept_again app slot p.buffer t.ports))) (packet_in (item_in x)) taken
-      (λ p. both s.ports t.ports (kept_again app slot p.buffer t.ports) taken (machines t.ports app slot (Some (keeping_again (anywhere p.buffer) (machine_at t.ports app slot)))))))
+  turn_deliver : (seat : Seat) (s : State) (time : ℕ) (x : AnswerShown) → seat.slot < SLOTS → Turns s time (plan.Deliver seat) x
+  turn_deliver seat s time x low =
+      let t : State = until s time (plan.Deliver seat) in
+      let q : PlainPorts = turned seat s.ports in
+      let taken : NoMore s.ports t.ports = machines q seat (Some (without_delivery (machine_at q seat))) in
+      evens_quiet (delivering (delivery (machine_at s.ports seat)) seat) x s.ports (ports_after s time (plan.Deliver seat) x) (none_put (delivery (machine_at s.ports seat)))
+      (pushed_so s.ports (is_pushed x) _ _ (both s.ports t.ports (delivered time seat t.ports).ports taken (delivers time seat t.ports low))
+      (brought_so s.ports t (λ p. unchanged (with_ports t (kept_again seat p.buffer t.ports))) (packet_in (item_in x)) taken
+      (λ p. both s.ports t.ports (kept_again seat p.buffer t.ports) taken (machines t.ports seat (Some (keeping_again (anywhere p.buffer) (machine_at t.ports seat)))))))
     where
-      none_put : (o : Option PlainBuffer) → answered_in (put_by (queue.Down a) (delivering o app slot) x) ≡ 0
+      none_put : (o : Option PlainBuffer) → answered_in (put_by (queue.Down a) (delivering o seat) x) ≡ 0
       none_put None = refl
-      none_put (Some b) = pushed_none (queue.Down app) (item.Packet slot b.picture) x refl
+      none_put (Some b) = pushed_none (queue.Down seat.app) (item.Packet seat.slot b.picture) x refl
 
-  made_so : (y : Slot) (j : Job) (s : State) (app slot time : ℕ) (b : Content) → Quiet s (made_on y j f s app slot time b)
-  made_so has.Free j s app slot time b = stays s.ports
-  made_so has.Held j s app slot time b = stays s.ports
-  made_so (has.Open c) j s app slot time b =
-      let t : State = with_ports s (making j time app slot s.ports) in
-      let x : Content = addressed f c (terms_at s.ports app slot) (made_in j time app slot b s.ports) in
-      both s.ports t.ports (sent f t x).state.ports (machines s.ports app slot (Some (sends_job j time (machine_at s.ports app slot)))) (sends f t x)
+  made_so : (y : Slot) (j : Job) (s : State) (seat : Seat) (time : ℕ) (b : Content) → Quiet s (made_on y (seat, j) (router f s) time b)
+  made_so has.Free j s seat time b = stays s.ports
+  made_so has.Held j s seat time b = stays s.ports
+  made_so (has.Open c) j s seat time b =
+      let t : State = with_ports s (making j time seat s.ports) in
+      let x : Content = addressed f c (terms_at s.ports seat) (made_in j time seat b s.ports) in
+      both s.ports t.ports (sent f t x).state.ports (machines s.ports seat (Some (sends_job j time (machine_at s.ports seat)))) (sends f t x)
 
-  turn_make : (app slot : ℕ) (j : Job) (s : State) (time : ℕ) (x : AnswerShown) → Turns s time (plan.Make app slot j) x
-  turn_make app slot j s time x =
-      let t : State = until s time (plan.Make app slot j) in
-      evens_quiet op.Take x s.ports (ports_after s time (plan.Make app slot j) x) refl
-      (brought_so s.ports t (made_on (slot_at t.ports.conns app slot) j f t app slot time) (buffer_in x) (stays s.ports) (made_so (slot_at t.ports.conns app slot) j t app slot time))
+  turn_make : (seat : Seat) (j : Job) (s : State) (time : ℕ) (x : AnswerShown) → Turns s time (plan.Make seat j) x
+  turn_make seat j s time x =
+      let t : State = until s time (plan.Make seat j) in
+      evens_quiet op.Take x s.ports (ports_after s time (plan.Make seat j) x) refl
+      (brought_so s.ports t (made_on (slot_at t.ports.conns seat) (seat, j) (router f t) time) (buffer_in x) (stays s.ports) (made_so (slot_at t.ports.conns seat) j t seat time))
 
   -- ---- the plan of a turn
 
   -- a packet is delivered on a slot that an application may have
   abbrev IsPlaced : Plan → Type 0
-  IsPlaced (plan.Deliver app slot) = slot < SLOTS
+  IsPlaced (plan.Deliver s) = s.slot < SLOTS
   IsPlaced _ = ⊤
 
   turn : (p : Plan) (s : State) (time : ℕ) (x : AnswerShown) → IsPlaced p → Fits (turn_of f s time p).asks x → ComesSo (turn_of f s time p).asks x → Turns s time p x
@@ -380,19 +371,19 @@ module _ (f : Facts) (a : ℕ) where
   turn plan.Hear s time x low fits comes = turn_hear s time x
   turn (plan.Serve k) s time x low fits comes = turn_serve k s time x fits comes
   turn (plan.Reply k) s time x low fits comes = turn_reply k s.ports.owed s time x refl fits
-  turn (plan.Tell app slot) s time x low fits comes = turn_tell app slot s time x
-  turn (plan.Deliver app slot) s time x low fits comes = turn_deliver app slot s time x low
-  turn (plan.Make app slot j) s time x low fits comes = turn_make app slot j s time x
+  turn (plan.Tell seat) s time x low fits comes = turn_tell seat s time x
+  turn (plan.Deliver seat) s time x low fits comes = turn_deliver seat s time x low
+  turn (plan.Make seat j) s time x low fits comes = turn_make seat j s time x
 
-  placed_task : (t : Task) (app slot : ℕ) → slot < SLOTS → IsPlaced (plan_for app slot t)
-  placed_task task.Tell app slot low = tt
-  placed_task task.Deliver app slot low = low
-  placed_task (task.Make j) app slot low = tt
+  placed_task : (t : Task) (s : Seat) → s.slot < SLOTS → IsPlaced (plan_for s t)
+  placed_task task.Tell s low = tt
+  placed_task task.Deliver s low = low
+  placed_task (task.Make j) s low = tt
 
-  placed_jobs : (os : List Owed) (o : Option (ℕ × ℕ × Task)) (time : ℕ) (p : PlainPorts) → next_task time p ≡ o → IsPlaced (jobs_by os o)
+  placed_jobs : (os : List Owed) (o : Option (Seat × Task)) (time : ℕ) (p : PlainPorts) → next_task time p ≡ o → IsPlaced (jobs_by os o)
   placed_jobs (o ∷ os) t time p e = tt
   placed_jobs [] None time p e = tt
-  placed_jobs [] (Some t) time p e = placed_task t.2 t.0 t.1 (task_there time p t e).slot_there
+  placed_jobs [] (Some t) time p e = placed_task t.1 t.0 (task_there time p t e).slot_there
 
   placed_at : (x : Source) (s : State) (time : ℕ) → IsPlaced (work_at s time x)
   placed_at source.Inbox s time = tt

@@ -5,6 +5,7 @@ use Rattle.std.proofs.lemmas.Bool.{eq-eqb}
 use Rattle.std.proofs.lemmas.Bool.Decides.{leb_tells}
 use Rattle.std.proofs.lemmas.List.{get_or-replicate, get_or_past}
 use Rattle.std.proofs.lemmas.List.FromFn.{get_or-map-range_with_len, length-map-range_with_len}
+use Rattle.csp_base.specs.Seat.{seat}
 use Rattle.csp_app.specs.Asking.{asked, asks}
 use Rattle.csp_app.specs.Collecting.{collector_at, collector_for, collectors_for}
 use Rattle.csp_app.specs.Making.{note_in}
@@ -252,7 +253,7 @@ pub collects : AreTrueApps → AreCollected
 collects true_apps number steps es log = record {
   collects = λ k o low collector.
       let items : List ItemShown = gets (queue.Down number) es in
-      let taken : List (List ℕ) = record_payloads.took number k o es in
+      let taken : List (List ℕ) = record_payloads.took (seat number k) o es in
       let same : payloads_from k o 0 items ≡ taken = sym ((true_apps number steps es log).takes k o) in
       tells_same k o (all_events es) (blobs_by (begun_with (0 == o) (Some nothing)) (payloads_from k o 0 items)) (blobs_by (Some nothing) taken)
       (refusals_by (begun_with (0 == o) (Some nothing)) (payloads_from k o 0 items)) (refusals_by (Some nothing) taken)

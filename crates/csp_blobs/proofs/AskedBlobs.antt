@@ -3,6 +3,7 @@ use Rattle.std.proofs.Common.{◌≡◌, ℕ, ◌+◌, ◌<◌, true, Some, List
 use Rattle.std.specs.List.{AllByRecursion}
 use Rattle.std.proofs.lemmas.Option.{slice_get_within}
 use Rattle.std.proofs.lemmas.Grind.{flat_map-append}
+use Rattle.csp_base.specs.Seat.{seat}
 use Rattle.csp_log.specs.declared.entry.Entry.{Entry}
 use Rattle.csp_log.specs.declared.event.Event.TheVariants as event
 use Rattle.csp_log.specs.declared.note.Note.{Note}
@@ -80,8 +81,8 @@ module _ (scene : PlainScene) (r : PlainRecord) (is : IsScene scene) (con : IsCo
       ranges : AllByRecursion IsStep steps
       ranges = subst (AllByRecursion IsStep) sends.script (each_at IsApp sends.home.apps other sends.own (each_at IsNode scene.nodes place sends.home is.nodes sends.there).apps sends.of_it).ranges
 
-      all : SendsPieces other y.slot steps A
-      all = pieces other y.slot steps A (on_slots place other y flow.0) ranges sends.blobs log
+      all : SendsPieces (seat other y.slot) steps A
+      all = pieces (seat other y.slot) steps A (on_slots place other y flow.0) ranges sends.blobs log
 
       up_left : List ItemShown
       up_left = left_in r place (queue.Up other) 0
@@ -128,8 +129,8 @@ module _ (scene : PlainScene) (r : PlainRecord) (is : IsScene scene) (con : IsCo
 
       sent_then : IsBeginning (sent_on r place other y) (pushed_on y.slot later)
       sent_then =
-          subst (λ o. IsBeginning (sent other y.slot o R) (pushed_on y.slot later)) asked.ordinal
-          (send _ _ R to_opening asked.later asked.opens other y.slot peer.1 asked.at y.peer t.log asked.whole told)
+          subst (λ o. IsBeginning (sent (seat other y.slot) o R) (pushed_on y.slot later)) asked.ordinal
+          (send _ _ R to_opening asked.later asked.opens (seat other y.slot) peer.1 asked.at y.peer t.log asked.whole told)
 
       pushed : IsBeginning (pushed_on y.slot later) (pushed_on y.slot (later ++ up_left))
       pushed = record { rest = pushed_on y.slot up_left; whole = sym (flat_map-append (payload_on y.slot) later up_left) }

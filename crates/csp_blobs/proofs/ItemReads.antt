@@ -11,7 +11,7 @@ use Rattle.std.proofs.lemmas.List.{get_or-set_other, get_or-set_same, length-set
 use Rattle.std.proofs.lemmas.List.Elements.{filter_map-append}
 use Rattle.csp_app.specs.Collecting.{Collectors, answer_of, blobs_told, collector_at, collectors_after, counts, piece_told}
 use Rattle.csp_app.specs.Slots.{closed_on, fresh, slot_at, slots_after, took}
-use Rattle.csp_app.specs.declared.slot.KnownSlot.{KnownSlot as Slot}
+use Rattle.csp_app.specs.declared.slot.KnownSlot.{KnownSlot}
 use Rattle.csp_crc.specs.Crc.{crc_of}
 use Rattle.csp_log.specs.declared.event.Event.{Event}
 use Rattle.csp_log.specs.declared.note.Note.TheVariants as note
@@ -68,7 +68,7 @@ collector_by k (item.Note (note.Closed freed)) c = (if freed == k then option_ma
 collector_by k _ c = c
 
 -- what is known of a slot that collects: it is one of the application's, and so often was it freed
-abbrev pub Knows : (k n : ℕ) → Option Gathering → List Slot → Type 0
+abbrev pub Knows : (k n : ℕ) → Option Gathering → List KnownSlot → Type 0
 Knows k n None slots = ⊤
 Knows k n (Some g) slots = (k < length slots) × ((slot_at slots k).ordinal ≡ n)
 
@@ -97,34 +97,34 @@ past_payloads k o n (i ∷ is) low = ap (λ ps. ps ++ payloads_from k o (ends_by
 
 -- ---- a slot after an item
 
-set_ordinal : (slots : List Slot) (j k : ℕ) (v : Slot) → v.ordinal ≡ (slot_at slots j).ordinal → (slot_at (slice_set slots j v) k).ordinal ≡ (slot_at slots k).ordinal
+set_ordinal : (slots : List KnownSlot) (j k : ℕ) (v : KnownSlot) → v.ordinal ≡ (slot_at slots j).ordinal → (slot_at (slice_set slots j v) k).ordinal ≡ (slot_at slots k).ordinal
 set_ordinal slots j k v e =
-    sym (get_or-map (λ (s : Slot). s.ordinal) (slice_set slots j v) k fresh)
-    ∙ ap (λ ns. slice_index_or ns k 0) (map-set_same (λ (s : Slot). s.ordinal) slots j v fresh e)
-    ∙ get_or-map (λ (s : Slot). s.ordinal) slots k fresh
+    sym (get_or-map (λ (s : KnownSlot). s.ordinal) (slice_set slots j v) k fresh)
+    ∙ ap (λ ns. slice_index_or ns k 0) (map-set_same (λ (s : KnownSlot). s.ordinal) slots j v fresh e)
+    ∙ get_or-map (λ (s : KnownSlot). s.ordinal) slots k fresh
 
-pub knows_set : (k n : ℕ) (c : Option Gathering) (slots : List Slot) (j : ℕ) (v : Slot) → v.ordinal ≡ (slot_at slots j).ordinal → Knows k n c slots → Knows k n c (slice_set slots j v)
+pub knows_set : (k n : ℕ) (c : Option Gathering) (slots : List KnownSlot) (j : ℕ) (v : KnownSlot) → v.ordinal ≡ (slot_at slots j).ordinal → Knows k n c slots → Knows k n c (slice_set slots j v)
 knows_set k n None slots j v e h = tt
 knows_set k n (Some g) slots j v e h = (subst (λ m. k < m) (sym (length-set slots j v)) h.0, set_ordinal slots j k v e ∙ h.1)
 
-knows_closed : (k n : ℕ) (c : Option Gathering) (slots : List Slot) (freed : ℕ) (t : Bool) → (freed == k) ≡ t → Knows k n c slots
+knows_closed : (k n : ℕ) (c : Option Gathering) (slots : List KnownSlot) (freed : ℕ) (t : Bool) → (freed == k) ≡ t → Knows k n c slots
     → Knows k (if t then n + 1 else n) (if t then option_map (λ g. nothing) c else c) (closed_on freed slots)
 knows_closed k n None slots freed true e h = tt
 knows_closed k n None slots freed false e h = tt
 knows_closed k n (Some g) slots freed true e h =
-    let v : Slot = record (slot_at slots k) { ordinal = (slot_at slots k).ordinal + 1; down = false } in
+    let v : KnownSlot = record (slot_at slots k) { ordinal = (slot_at slots k).ordinal + 1; down = false } in
     subst (λ m. (k < length (closed_on m slots)) × ((slot_at (closed_on m slots) k).ordinal ≡ n + 1)) (sym (eqb-true freed k e))
-    (subst (λ m. k < m) (sym (length-set slots k v)) h.0, ap (λ (s : Slot). s.ordinal) (get_or-set_same slots k v fresh h.0) ∙ ap (λ m. m + 1) h.1)
+    (subst (λ m. k < m) (sym (length-set slots k v)) h.0, ap (λ (s : KnownSlot). s.ordinal) (get_or-set_same slots k v fresh h.0) ∙ ap (λ m. m + 1) h.1)
 knows_closed k n (Some g) slots freed false e h =
-    let v : Slot = record (slot_at slots freed) { ordinal = (slot_at slots freed).ordinal + 1; down = false } in
-    (subst (λ m. k < m) (sym (length-set slots freed v)) h.0, ap (λ (s : Slot). s.ordinal) (get_or-set_other slots freed k v fresh (λ q. eqb-false freed k e (sym q))) ∙ h.1)
+    let v : KnownSlot = record (slot_at slots freed) { ordinal = (slot_at slots freed).ordinal + 1; down = false } in
+    (subst (λ m. k < m) (sym (length-set slots freed v)) h.0, ap (λ (s : KnownSlot). s.ordinal) (get_or-set_other slots freed k v fresh (λ q. eqb-false freed k e (sym q))) ∙ h.1)
 
-knows_fed : (k n : ℕ) (f : Gathering → Gathering) (t : Bool) (c : Option Gathering) (slots : List Slot) → Knows k n c slots → Knows k n (if t then option_map f c else c) slots
+knows_fed : (k n : ℕ) (f : Gathering → Gathering) (t : Bool) (c : Option Gathering) (slots : List KnownSlot) → Knows k n c slots → Knows k n (if t then option_map f c else c) slots
 knows_fed k n f true None slots h = tt
 knows_fed k n f true (Some g) slots h = h
 knows_fed k n f false c slots h = h
 
-pub knows_after : (k n : ℕ) (c : Option Gathering) (i : ItemShown) (cs : Collectors) (slots : List Slot) → Knows k n c slots → Knows k (ends_by k n i) (collector_by k i c) (slots_after i cs slots)
+pub knows_after : (k n : ℕ) (c : Option Gathering) (i : ItemShown) (cs : Collectors) (slots : List KnownSlot) → Knows k n c slots → Knows k (ends_by k n i) (collector_by k i c) (slots_after i cs slots)
 knows_after k n c (item.Packet mark b) cs slots h =
     knows_set k n (if mark == k then option_map (λ g. after g b.payload) c else c) slots mark
     (record (slot_at slots mark) { unused = (slot_at slots mark).unused + counts (answer_of (collector_at cs mark) b.payload) }) refl
@@ -167,7 +167,7 @@ piece_tells k o n (Ok Part) g false e = record { told = refl; refused = refl }
 piece_tells k o n (Err why) g true e = record { told = refl; refused = λ i. cons_option (if eq-eqb k k refl i && e i then Some why else None) [] }
 piece_tells k o n (Err why) g false e = record { told = refl; refused = λ i. cons_option (if eq-eqb k k refl i && e i then Some why else None) [] }
 
-own_tells : (k o n : ℕ) (c : Option Gathering) (p : List ℕ) (cs : Collectors) (slots : List Slot) (u : Bool) → Knows k n c slots → collector_at cs k ≡ c → (n == o) ≡ u
+own_tells : (k o n : ℕ) (c : Option Gathering) (p : List ℕ) (cs : Collectors) (slots : List KnownSlot) (u : Bool) → Knows k n c slots → collector_at cs k ≡ c → (n == o) ≡ u
     → Tells k o (blobs_told k (slot_at slots k).ordinal (collector_at cs k) p) (if u then blobs_by c (p ∷ []) else []) (if u then refusals_by c (p ∷ []) else [])
 own_tells k o n None p cs slots true h same e = subst (λ d. Tells k o (blobs_told k (slot_at slots k).ordinal d p) [] []) (sym same) (record { told = refl; refused = refl })
 own_tells k o n None p cs slots false h same e = subst (λ d. Tells k o (blobs_told k (slot_at slots k).ordinal d p) [] []) (sym same) (record { told = refl; refused = refl })
@@ -190,7 +190,7 @@ other_tells k o mark ordinal (Some g) p e = by (answer g p) (after g p)
     by (Ok Part) a = record { told = refl; refused = refl }
     by (Err why) a = record { told = refl; refused = ap (λ t. cons_option (if t && ordinal == o then Some why else None) []) e }
 
-packet_tells : (k o n : ℕ) (c : Option Gathering) (mark : ℕ) (p : List ℕ) (cs : Collectors) (slots : List Slot) (t : Bool) → Knows k n c slots → collector_at cs k ≡ c → (mark == k) ≡ t
+packet_tells : (k o n : ℕ) (c : Option Gathering) (mark : ℕ) (p : List ℕ) (cs : Collectors) (slots : List KnownSlot) (t : Bool) → Knows k n c slots → collector_at cs k ≡ c → (mark == k) ≡ t
     → Tells k o (blobs_told mark (slot_at slots mark).ordinal (collector_at cs mark) p) (if t && n == o then blobs_by c (p ∷ []) else []) (if t && n == o then refusals_by c (p ∷ []) else [])
 packet_tells k o n c mark p cs slots true h same e =
     subst (λ m. Tells k o (blobs_told m (slot_at slots m).ordinal (collector_at cs m) p) (if n == o then blobs_by c (p ∷ []) else []) (if n == o then refusals_by c (p ∷ []) else [])) (sym (eqb-true mark k e))
@@ -259,7 +259,7 @@ closed_tells k o n c js es true later =
 closed_tells k o n c js es false later = later
 
 -- what is told at an item, and then of later items
-pub item_tells : (k o n : ℕ) (c : Option Gathering) (i : ItemShown) (cs : Collectors) (slots : List Slot) (js : List ItemShown) (es : List Event) → Knows k n c slots → collector_at cs k ≡ c
+pub item_tells : (k o n : ℕ) (c : Option Gathering) (i : ItemShown) (cs : Collectors) (slots : List KnownSlot) (js : List ItemShown) (es : List Event) → Knows k n c slots → collector_at cs k ≡ c
     → TellsOf k o (ends_by k n i) (collector_by k i c) js es → TellsOf k o n c (i ∷ js) (took i cs slots ++ es)
 item_tells k o n c (item.Packet mark b) cs slots js es h same later =
     let p : List ℕ = b.payload in

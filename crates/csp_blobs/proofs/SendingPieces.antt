@@ -129,13 +129,13 @@ steps_cut slot (suc at) (x ∷ xs) all = steps_cut slot at xs all.1
 -- ---- the law
 
 pub sends_pieces : PushSteps → SendPieces
-sends_pieces push number slot steps es low all none log =
-    let pushed = push number steps es all log in
+sends_pieces push seat steps es low all none log =
+    let pushed = push seat.app steps es all log in
     record {
-      cuts = λ at. All-from_recursion IsCut (cuts_on slot (drop at steps)) (steps_cut slot at steps all);
-      whole = begins slot 0 steps (puts (queue.Up number) es) low none pushed.whole;
-      since = λ first later at e a. begins slot at steps (puts (queue.Up number) later) low none (pushed.since first later at e a);
+      cuts = λ at. All-from_recursion IsCut (cuts_on seat.slot (drop at steps)) (steps_cut seat.slot at steps all);
+      whole = begins seat.slot 0 steps (puts (queue.Up seat.app) es) low none pushed.whole;
+      since = λ first later at e a. begins seat.slot at steps (puts (queue.Up seat.app) later) low none (pushed.since first later at e a);
       after = λ before rest n e.
           let asked : IsAsked steps before rest n = pushed.around before rest n e in
-          record { asked = asked; pieces = begins slot (asked.at + 1) steps rest low none asked.last };
+          record { asked = asked; pieces = begins seat.slot (asked.at + 1) steps rest low none asked.last };
     }

@@ -15,7 +15,7 @@ use Rattle.csp_app.specs.Steps.{answered, batch, first_rule, gives_up, give_plan
 use Rattle.csp_app.specs.Telling.{at_rest, tells, told_by}
 use Rattle.csp_app.specs.ToldApp.{next}
 use Rattle.csp_app.specs.Turn.{Turn, gives, giving_op, op_of, popped, pops, pushes, pushing_op, rests, takes, told_of, until_told}
-use Rattle.csp_app.specs.declared.plan.AppPlan.{AppPlan as Plan}
+use Rattle.csp_app.specs.declared.plan.AppPlan.{AppPlan}
 use Rattle.csp_app.specs.declared.plan.AppPlan.TheVariants as plan
 use Rattle.csp_buffer.specs.Content.{Content}
 use Rattle.csp_deck.specs.Runs.{IsRun, state_after, step_after}
@@ -44,7 +44,7 @@ abbrev IsQuiet : Option PlainStep → Bool → ℕ → Option Content → Type 0
 IsQuiet found asked sent made = (ahead_at asked sent found ≡ []) × (made ≡ None)
 
 -- a plan fits the present step, as far as it has come: it asks what is ahead, it sends, or the step pushes nothing more
-abbrev PlansSo : Option PlainStep → Bool → ℕ → Option Content → Plan → Type 0
+abbrev PlansSo : Option PlainStep → Bool → ℕ → Option Content → AppPlan → Type 0
 PlansSo found asked sent made plan.Rest = ⊤
 PlansSo found asked sent made plan.Return = ⊤
 PlansSo found asked sent made plan.Look = ⊤
@@ -100,17 +100,17 @@ step_so s (Some (step.Close slot)) h =
     note_so (Some (step.Close slot)) s.sent s.made (note.Close slot) s.asked refl refl (none_made (Some (step.Close slot)) s.sent s.mark s.made refl h)
 step_so s (Some (step.Wait rounds)) h = (refl, none_made (Some (step.Wait rounds)) s.sent s.mark s.made refl h)
 
-first_so : (found : Option PlainStep) (asked : Bool) (sent : ℕ) (made taken : Option Content) (refused : Bool) (own : Plan) → PlansSo found asked sent made own
+first_so : (found : Option PlainStep) (asked : Bool) (sent : ℕ) (made taken : Option Content) (refused : Bool) (own : AppPlan) → PlansSo found asked sent made own
     → PlansSo found asked sent made (first_rule taken refused own)
 first_so found asked sent made (Some b) refused own h = tt
 first_so found asked sent made None true own h = tt
 first_so found asked sent made None false own h = h
 
-abbrev PlansOf : PlainApp → Plan → Type 0
+abbrev PlansOf : PlainApp → AppPlan → Type 0
 PlansOf s p = PlansSo (slice_get s.steps s.done) s.asked s.sent s.made p
 
 -- a turn of this plan pushes nothing
-abbrev IsCalm : Plan → Type 0
+abbrev IsCalm : AppPlan → Type 0
 IsCalm (plan.Ask _) = ⊥
 IsCalm plan.Push = ⊥
 IsCalm _ = ⊤
@@ -147,7 +147,7 @@ module _ (number : ℕ) (steps : List PlainStep) (all : AllByRecursion IsStep st
 
   -- ---- a turn that pushes nothing
 
-  abbrev Leaves : List ItemShown → Plan → Turn → Type 0
+  abbrev Leaves : List ItemShown → AppPlan → Turn → Type 0
   Leaves is p (rests told) = Stands is told.state
   Leaves is p (takes taken none) = ((b : Content) → Stands is (taken b).state) × Stands is none.state
   Leaves is p (gives c until given back) = Stands is until × Stands is given.state × ((b : Content) → Stands is (back b).state)
@@ -173,7 +173,7 @@ module _ (number : ℕ) (steps : List PlainStep) (all : AllByRecursion IsStep st
   stands_waited is true s h q = stands_over is s h q
   stands_waited is false s h q = h
 
-  leaves : (is : List ItemShown) (s : PlainApp) (now : ℕ) (p : Plan) → IsCalm p → Stands is s → PlansOf s p → Leaves is p (turn_of s now p)
+  leaves : (is : List ItemShown) (s : PlainApp) (now : ℕ) (p : AppPlan) → IsCalm p → Stands is s → PlansOf s p → Leaves is p (turn_of s now p)
   leaves is s now plan.Rest c h k = h
   leaves is s now plan.Return c h k = (h, h, λ b. h)
   leaves is s now plan.Look c h k = (h, λ n t g j. g)
@@ -189,7 +189,7 @@ module _ (number : ℕ) (steps : List PlainStep) (all : AllByRecursion IsStep st
       (h, λ n t g j. stands_received is slot packets (is_enough slot packets t) (gives_up rounds now t) (slot_at t.slots slot).down t g j)
   leaves is s now (plan.Wait rounds) c h k = (h, λ n t g j. stands_waited is (has_passed rounds now t) t g j)
 
-  stands_told : (is : List ItemShown) (p : Plan) (s : PlainApp) (t : Turn) (a : AnswerShown) → Leaves is p t → Stands is s → PlansOf s p → Stands is (told_of s t a).state
+  stands_told : (is : List ItemShown) (p : AppPlan) (s : PlainApp) (t : Turn) (a : AnswerShown) → Leaves is p t → Stands is s → PlansOf s p → Stands is (told_of s t a).state
   stands_told is p s (rests told) answer.Nothing l h k = l
   stands_told is p s (takes taken none) (answer.Taken b) l h k = l.0 b
   stands_told is p s (takes taken none) answer.NoBuffer l h k = l.1
@@ -200,7 +200,7 @@ module _ (number : ℕ) (steps : List PlainStep) (all : AllByRecursion IsStep st
   stands_told is p s (pops until look) answer.Empty l h k = l.1 None s h k
   stands_told is p s _ _ l h k = h
 
-  stands_until : (is : List ItemShown) (p : Plan) (s : PlainApp) (t : Turn) → Leaves is p t → Stands is s → Stands is (until_told s t)
+  stands_until : (is : List ItemShown) (p : AppPlan) (s : PlainApp) (t : Turn) → Leaves is p t → Stands is s → Stands is (until_told s t)
   stands_until is p s (rests told) l h = h
   stands_until is p s (takes taken none) l h = h
   stands_until is p s (gives c until given back) l h = l.0
@@ -208,7 +208,7 @@ module _ (number : ℕ) (steps : List PlainStep) (all : AllByRecursion IsStep st
   stands_until is p s (pops until look) l h = l.0
 
   -- until it is told, the plan fits as before
-  plan_stays : (s : PlainApp) (now : ℕ) (p : Plan) → IsCalm p → PlansOf s p → PlansOf (handed s now p) p
+  plan_stays : (s : PlainApp) (now : ℕ) (p : AppPlan) → IsCalm p → PlansOf s p → PlansOf (handed s now p) p
   plan_stays s now (plan.Ask n) c k = absurd c
   plan_stays s now plan.Push c k = absurd c
   plan_stays s now _ c k = k
@@ -217,7 +217,7 @@ module _ (number : ℕ) (steps : List PlainStep) (all : AllByRecursion IsStep st
   giving_puts None a = refl
   giving_puts (Some b) a = refl
 
-  nothing_put : (is : List ItemShown) (p : Plan) (own : ℕ) (t : Turn) (a : AnswerShown) → Leaves is p t → put_by (queue.Up number) (op_of own t) a ≡ []
+  nothing_put : (is : List ItemShown) (p : AppPlan) (own : ℕ) (t : Turn) (a : AnswerShown) → Leaves is p t → put_by (queue.Up number) (op_of own t) a ≡ []
   nothing_put is p own (rests told) a l = refl
   nothing_put is p own (takes taken none) a l = refl
   nothing_put is p own (gives c until given back) a l = giving_puts c a
@@ -233,10 +233,10 @@ module _ (number : ℕ) (steps : List PlainStep) (all : AllByRecursion IsStep st
     pub stands : Stands left s
 
   -- the application until it is told, and when it is
-  abbrev until : PlainApp → ℕ → Plan → PlainApp
+  abbrev until : PlainApp → ℕ → AppPlan → PlainApp
   until s now p = at_rest (record (handed s now p) { doing = p })
 
-  goes_calm : (is : List ItemShown) (s : PlainApp) (now : ℕ) (p : Plan) (a : AnswerShown) → IsCalm p → Stands is s → PlansOf s p
+  goes_calm : (is : List ItemShown) (s : PlainApp) (now : ℕ) (p : AppPlan) (a : AnswerShown) → IsCalm p → Stands is s → PlansOf s p
       → Goes is (op_of s.number (turn_of s now p)) a (told_by (until s now p) now p a).state
   goes_calm is s now p a c h k =
       let before : Leaves is p (turn_of s now p) = leaves is s now p c h k in
@@ -303,7 +303,7 @@ module _ (number : ℕ) (steps : List PlainStep) (all : AllByRecursion IsStep st
       record { left = is; same = refl; stands = (h.0, h.1, made_back (slice_get s.steps s.done) s.sent i (item.Packet s.mark b) f m, h.3, h.4) }
   goes_push is s now (Some b) _ h m sends f = absurd f
 
-  goes : (is : List ItemShown) (s : PlainApp) (now : ℕ) (p : Plan) (a : AnswerShown) → Stands is s → PlansOf s p → Fits (op_of s.number (turn_of s now p)) a
+  goes : (is : List ItemShown) (s : PlainApp) (now : ℕ) (p : AppPlan) (a : AnswerShown) → Stands is s → PlansOf s p → Fits (op_of s.number (turn_of s now p)) a
       → Goes is (op_of s.number (turn_of s now p)) a (told_by (until s now p) now p a).state
   goes is s now (plan.Ask n) a h k f = goes_ask is s now n a h k f
   goes is s now plan.Push a h k f = goes_push is s now s.made a h h.2 k f

@@ -13,7 +13,7 @@ use Rattle.csp_app.specs.Steps as steps_of
 use Rattle.csp_app.specs.Telling.{at_rest, tells, told_by}
 use Rattle.csp_app.specs.ToldApp.{next}
 use Rattle.csp_app.specs.Turn.{Turn, gives, giving_op, op_of, popped, pops, pushes, pushing_op, rests, takes, told_of, until_told}
-use Rattle.csp_app.specs.declared.plan.AppPlan.{AppPlan as Plan}
+use Rattle.csp_app.specs.declared.plan.AppPlan.{AppPlan}
 use Rattle.csp_app.specs.declared.plan.AppPlan.TheVariants as plan
 use Rattle.csp_buffer.specs.Content.{Content}
 use Rattle.csp_deck.specs.Runs.{IsRun, step_after}
@@ -62,7 +62,7 @@ none_awaited true found h e = absurd (cc (h, e))
 none_awaited false found h e = refl
 
 -- a plan fits what is awaited: while an answer is, nothing is asked or put
-abbrev PlansSo : Option PlainStep → ℕ → Plan → Type 0
+abbrev PlansSo : Option PlainStep → ℕ → AppPlan → Type 0
 PlansSo found n plan.Rest = ⊤
 PlansSo found n plan.Return = ⊤
 PlansSo found n plan.Look = ⊤
@@ -112,7 +112,7 @@ step_so s (Some (step.Collect slot count rounds)) h =
 step_so s (Some (step.Close slot)) h = note_so (Some (step.Close slot)) (note.Close slot) s.asked refl
 step_so s (Some (step.Wait rounds)) h = none_awaited s.asked (Some (step.Wait rounds)) h refl
 
-first_so : (found : Option PlainStep) (n : ℕ) (taken : Option Content) (refused : Bool) (own : Plan) → PlansSo found n own
+first_so : (found : Option PlainStep) (n : ℕ) (taken : Option Content) (refused : Bool) (own : AppPlan) → PlansSo found n own
     → PlansSo found n (steps_of.first_rule taken refused own)
 first_so found n (Some b) refused own h = tt
 first_so found n None true own h = tt
@@ -125,7 +125,7 @@ plan_so : (s : PlainApp) → IsFor s.asked (found_in s) → PlansSo (found_in s)
 plan_so s h = first_so (found_in s) (awaited s.asked) s.taken s.refused (steps_of.step_plan s (found_in s)) (step_so s (found_in s) h)
 
 -- a turn of this plan asks nothing, and looks for no answer
-abbrev IsCalm : Plan → Type 0
+abbrev IsCalm : AppPlan → Type 0
 IsCalm (plan.Ask _) = ⊥
 IsCalm plan.Await = ⊥
 IsCalm _ = ⊤
@@ -173,7 +173,7 @@ module _ (number : ℕ) where
   packet_asks mark None = tt
   packet_asks mark (Some b) = refl
 
-  leaves : (n : ℕ) (s : PlainApp) (now : ℕ) (p : Plan) → IsCalm p → Awaits n s → PlansSo (found_in s) n p → Leaves n (steps_of.turn_of s now p)
+  leaves : (n : ℕ) (s : PlainApp) (now : ℕ) (p : AppPlan) → IsCalm p → Awaits n s → PlansSo (found_in s) n p → Leaves n (steps_of.turn_of s now p)
   leaves n s now plan.Rest c h k = h
   leaves n s now plan.Return c h k = (h, h, λ b. h)
   leaves n s now plan.Look c h k = (h, λ m t g. g)
@@ -209,7 +209,7 @@ module _ (number : ℕ) where
   awaits_until n s (pops until look) l h = l.0
 
   -- until it is told, the plan fits as before
-  plan_stays : (n : ℕ) (s : PlainApp) (now : ℕ) (p : Plan) → IsCalm p → PlansSo (found_in s) n p → PlansSo (found_in (handed s now p)) n p
+  plan_stays : (n : ℕ) (s : PlainApp) (now : ℕ) (p : AppPlan) → IsCalm p → PlansSo (found_in s) n p → PlansSo (found_in (handed s now p)) n p
   plan_stays n s now (plan.Ask m) c k = absurd c
   plan_stays n s now plan.Await c k = absurd c
   plan_stays n s now _ c k = k
@@ -239,10 +239,10 @@ module _ (number : ℕ) where
     pub awaits : Awaits left s
 
   -- the application until it is told
-  abbrev until : PlainApp → ℕ → Plan → PlainApp
+  abbrev until : PlainApp → ℕ → AppPlan → PlainApp
   until s now p = at_rest (record (handed s now p) { doing = p })
 
-  goes_calm : (n : ℕ) (s : PlainApp) (now : ℕ) (p : Plan) (a : AnswerShown) → IsCalm p → Awaits n s → PlansSo (found_in s) n p
+  goes_calm : (n : ℕ) (s : PlainApp) (now : ℕ) (p : AppPlan) (a : AnswerShown) → IsCalm p → Awaits n s → PlansSo (found_in s) n p
       → Goes n (op_of s.number (steps_of.turn_of s now p)) a (told_by (until s now p) now p a).state
   goes_calm n s now p a c h k =
       let before : Leaves n (steps_of.turn_of s now p) = leaves n s now p c h k in
@@ -296,7 +296,7 @@ module _ (number : ℕ) where
       goes_on n s (told_by (until s now plan.Await) now plan.Await (answer.Popped (item.Frame f))).state (answer.Popped (item.Frame f)) h
   goes_await n s now a h = goes_on n s (told_by (until s now plan.Await) now plan.Await a).state a h
 
-  goes : (n : ℕ) (s : PlainApp) (now : ℕ) (p : Plan) (a : AnswerShown) → Awaits n s → PlansSo (found_in s) n p
+  goes : (n : ℕ) (s : PlainApp) (now : ℕ) (p : AppPlan) (a : AnswerShown) → Awaits n s → PlansSo (found_in s) n p
       → Fits (op_of s.number (steps_of.turn_of s now p)) a
       → Goes n (op_of s.number (steps_of.turn_of s now p)) a (told_by (until s now p) now p a).state
   goes n s now (plan.Ask m) a h k f = goes_ask n s now m a h k f
@@ -304,7 +304,7 @@ module _ (number : ℕ) where
   goes n s now p a h k f = goes_calm n s now p a tt h k
 
   -- an application that awaits so many at least, has all that it awaits
-  plan_less : (found : Option PlainStep) (n more : ℕ) (p : Plan) → n ≤ more → PlansSo found more p → PlansSo found n p
+  plan_less : (found : Option PlainStep) (n more : ℕ) (p : AppPlan) → n ≤ more → PlansSo found more p → PlansSo found n p
   plan_less found n more plan.Rest l k = tt
   plan_less found n more plan.Return l k = tt
   plan_less found n more plan.Look l k = tt
@@ -323,7 +323,7 @@ module _ (number : ℕ) where
   giving_puts (Some b) a = refl
 
   -- only a turn that asks or pushes puts something, and then no answer is awaited
-  puts_unasked : (s : PlainApp) (now n : ℕ) (p : Plan) (a : AnswerShown) (i : ItemShown) → PlansSo (found_in s) n p
+  puts_unasked : (s : PlainApp) (now n : ℕ) (p : AppPlan) (a : AnswerShown) (i : ItemShown) → PlansSo (found_in s) n p
       → put_by (queue.Up number) (op_of s.number (steps_of.turn_of s now p)) a ≡ i ∷ [] → n ≡ 0
   puts_unasked s now n plan.Rest a i k e = absurd cc
   puts_unasked s now n plan.Return a i k e = absurd (cc (e, giving_puts s.taken a))

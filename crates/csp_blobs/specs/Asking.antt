@@ -1,6 +1,8 @@
 -- What an application asks of its router, and what is sent on a connection that it asked for.
 use Rattle.std.specs.Prelude.{◌≡◌, ℕ, ◌+◌, ◌≤◌, Bool, true, false, Option, Some, List, [], ◌∷◌, ◌++◌, drop, length, map, slice_get, take, count_by}
 use Rattle.std.specs.List.{flat_map, list_any}
+use Rattle.csp_base.specs.Seat.{seat}
+use Rattle.csp_base.specs.declared.seat.Seat.{Seat}
 use Rattle.csp_app.specs.PlainStep.{PlainStep}
 use Rattle.csp_causal.specs.Causal.{IsCausal}
 use Rattle.csp_consistent.specs.Reading.{entries_of, got_by, gets, put_by, puts}
@@ -80,13 +82,13 @@ WaitForAnswers =
 
 -- ---- what is sent
 
--- a router sends on a reliable connection a beginning of what its application gives it on the slot from then on that the connection is open, and nothing
--- before
+-- a router sends on a reliable connection a beginning of what the application of its seat gives it on the slot from then on that the connection is open,
+-- and nothing before
 abbrev pub SendWhatComes : Type 0
 SendWhatComes =
-    (f : Facts) (routes : Routes) (es first later : List Entry) (own : Entry) (app slot nth at : ℕ) (peer : Option (ℕ × ℕ)) → IsRouterLog f routes es → es ≡ first ++ own ∷ later
-    → slice_get own.events.items at ≡ Some (event.Opened app slot (Some nth) peer)
-    → IsBeginning (sent app slot (ordinal_at way.Sent app slot es (length first)) es) (pushed_on slot (gets (queue.Up app) later))
+    (f : Facts) (routes : Routes) (es first later : List Entry) (own : Entry) (seat : Seat) (nth at : ℕ) (peer : Option (ℕ × ℕ)) → IsRouterLog f routes es → es ≡ first ++ own ∷ later
+    → slice_get own.events.items at ≡ Some (event.Opened seat.app seat.slot (Some nth) peer)
+    → IsBeginning (sent seat (ordinal_at way.Sent seat es (length first)) es) (pushed_on seat.slot (gets (queue.Up seat.app) later))
 
 -- a note asks for a connection on this slot
 abbrev pub IsConnect : (slot : ℕ) → Note → Type 0
@@ -107,16 +109,16 @@ pub record IsAskedFor (app : ℕ) (es : List Entry) (y : Opening) : Type 0 where
   pub unanswered : answered_in (puts (queue.Down app) between) ≡ 0
   pub at : ℕ
   pub opened : slice_get opens.events.items at ≡ Some (event.Opened app y.slot y.nth y.peer)
-  pub ordinal : ordinal_at way.Sent app y.slot es (length (first ++ own ∷ between)) ≡ y.ordinal
+  pub ordinal : ordinal_at way.Sent (seat app y.slot) es (length (first ++ own ∷ between)) ≡ y.ordinal
 
--- the application of this number of a node has this script, by which it sends on a slot blobs alone
-pub record SendsBlobsAt (scene : PlainScene) (node app slot : ℕ) (steps : List PlainStep) : Type 0 where
+-- the application of this seat of a node has this script, by which it sends blobs alone on the seat's slot
+pub record SendsBlobsAt (scene : PlainScene) (node : ℕ) (seat : Seat) (steps : List PlainStep) : Type 0 where
   pub home : PlainNode
   pub there : slice_get scene.nodes node ≡ Some home
   pub own : PlainApp
-  pub of_it : slice_get home.apps app ≡ Some own
+  pub of_it : slice_get home.apps seat.app ≡ Some own
   pub script : own.steps ≡ steps
-  pub blobs : list_any (sends_packets slot) steps ≡ false
+  pub blobs : list_any (sends_packets seat.slot) steps ≡ false
 
 -- the step that asked this note, before which just this was put; of the blobs of the steps that follow it on the sender's slot the receiver tells a
 -- beginning, each once and whole
@@ -132,8 +134,8 @@ pub record TellsBlobsSince (r : PlainRecord) (node app : ℕ) (x : Opening) (slo
 -- alone on that slot, a beginning is told of the blobs of the steps that follow the `connect`, each once and whole, and no refusal
 abbrev pub AreBlobsWhole : PlainScene → PlainRecord → Type 0
 AreBlobsWhole scene r =
-    (node app nth other : ℕ) (x y : Opening) (peer : ℕ × ℕ) (steps : List PlainStep) → IsOpened r node app x → x.nth ≡ Some nth → x.peer ≡ Some peer → CollectsAt scene node app x.slot
-    → IsOfFlow r peer other y → SendsBlobsAt scene peer.0 other y.slot steps → (asked : IsAskedFor other (entries_of r (who.Router peer.0)) y)
+    (node app nth other : ℕ) (x y : Opening) (peer : ℕ × ℕ) (steps : List PlainStep) → IsOpened r node app x → x.nth ≡ Some nth → x.peer ≡ Some peer → CollectsAt scene node (seat app x.slot)
+    → IsOfFlow r peer other y → SendsBlobsAt scene peer.0 (seat other y.slot) steps → (asked : IsAskedFor other (entries_of r (who.Router peer.0)) y)
     → TellsBlobsSince r node app x y.slot steps (gets (queue.Up other) asked.first) asked.note
 
 -- what a record tells of blobs: a beginning of those whose pieces were sent; and where it is causal, of those of the steps that follow the `connect`

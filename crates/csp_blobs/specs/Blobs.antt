@@ -1,5 +1,7 @@
 -- What an application's record tells of blobs: what a collector makes of the payloads that were taken; and what of that follows from the reliable prefix.
 use Rattle.std.specs.Prelude.{◌≡◌, ◌<◌, ℕ, Some, None, List, [], length, map, slice_get}
+use Rattle.csp_base.specs.Seat.{seat}
+use Rattle.csp_base.specs.declared.seat.Seat.{Seat}
 use Rattle.csp_app.specs.Collecting.{collector_for}
 use Rattle.csp_app.specs.PlainStep.{PlainStep}
 use Rattle.csp_crc.specs.Crc.{crc_of}
@@ -32,7 +34,7 @@ pub record Tells (slot ordinal : ℕ) (events : List Event) (blobs : List (List 
 -- connection; and else nothing
 pub record IsCollected (number : ℕ) (steps : List PlainStep) (es : List Entry) : Type 0 where
   pub collects : (slot ordinal : ℕ) → slot < SLOTS → collector_for steps slot ≡ Some nothing
-      → Tells slot ordinal (all_events es) (collected nothing (took number slot ordinal es)) (refusals nothing (took number slot ordinal es))
+      → Tells slot ordinal (all_events es) (collected nothing (took (seat number slot) ordinal es)) (refusals nothing (took (seat number slot) ordinal es))
   pub others : (slot ordinal : ℕ) → collector_for steps slot ≡ None → Tells slot ordinal (all_events es) [] []
 
 -- each log of an application tells of blobs what its slots' collectors make of the payloads that were taken
@@ -41,13 +43,13 @@ AreCollected = (number : ℕ) (steps : List PlainStep) (es : List Entry) → IsA
 
 -- ---- in a record
 
--- the application of this number of a node collects on this slot
-pub record CollectsAt (scene : PlainScene) (node app slot : ℕ) : Type 0 where
+-- the application of this seat of a node collects on its slot
+pub record CollectsAt (scene : PlainScene) (node : ℕ) (seat : Seat) : Type 0 where
   pub home : PlainNode
   pub there : slice_get scene.nodes node ≡ Some home
   pub own : PlainApp
-  pub of_it : slice_get home.apps app ≡ Some own
-  pub collects : collector_for own.steps slot ≡ Some nothing
+  pub of_it : slice_get home.apps seat.app ≡ Some own
+  pub collects : collector_for own.steps seat.slot ≡ Some nothing
 
 -- an application's record tells of a beginning of these blobs on a connection, each once and whole, and of no refusal: of those that a new collector
 -- makes of the payloads that were taken there
@@ -66,5 +68,5 @@ pub record HasPeersBlobs (r : PlainRecord) (node app : ℕ) (x : Opening) (peer 
 -- peer sent
 abbrev pub IsBlobPrefix : PlainScene → PlainRecord → Type 0
 IsBlobPrefix scene r =
-    (node app nth : ℕ) (x : Opening) (peer : ℕ × ℕ) → IsOpened r node app x → x.nth ≡ Some nth → x.peer ≡ Some peer → CollectsAt scene node app x.slot
+    (node app nth : ℕ) (x : Opening) (peer : ℕ × ℕ) → IsOpened r node app x → x.nth ≡ Some nth → x.peer ≡ Some peer → CollectsAt scene node (seat app x.slot)
     → HasPeersBlobs r node app x peer

@@ -1,6 +1,7 @@
 -- What an application pushes by its script: what its steps push, in order; and so on a slot on which it sends blobs alone, the pieces of these.
 use Rattle.std.specs.Prelude.{◌≡◌, ◌<◌, ℕ, ◌+◌, ◌==◌, false, Some, List, [], ◌∷◌, ◌++◌, drop, map, slice_get, take, if◌then◌else◌}
 use Rattle.std.specs.List.{AllByRecursion, flat_map, list_any, range_with_len}
+use Rattle.csp_base.specs.declared.seat.Seat.{Seat}
 use Rattle.csp_app.specs.Making.{Batch, batch_of, blob_bytes, filled}
 use Rattle.csp_app.specs.PlainApp.{PlainApp, opening}
 use Rattle.csp_app.specs.PlainStep.{PlainStep}
@@ -105,18 +106,18 @@ pub record IsSince (slot : ℕ) (steps : List PlainStep) (before after : List It
   pub asked : IsAsked steps before after n
   pub pieces : IsBeginning (pushed_on slot after) (all_pieces (cuts_on slot (drop (asked.at + 1) steps)))
 
--- what the log of an application shows as pushed on a slot is a beginning of the pieces of the blobs that its steps send there, each of which can be cut;
+-- what the log of a seat's application shows as pushed on its slot is a beginning of the pieces of the blobs that its steps send there, each of which can be cut;
 -- since it stood at a step, of the pieces of the blobs of that step and those after it; and so after each note
-pub record SendsPieces (number slot : ℕ) (steps : List PlainStep) (es : List Entry) : Type 0 where
-  pub cuts : (at : ℕ) → CanAllBeCut (cuts_on slot (drop at steps))
-  pub whole : IsBeginning (pushed_on slot (puts (queue.Up number) es)) (all_pieces (cuts_on slot steps))
-  pub since : (first later : List Entry) (at : ℕ) → es ≡ first ++ later → IsAtStep at (state_after app_steps (opening number steps) first)
-      → IsBeginning (pushed_on slot (puts (queue.Up number) later)) (all_pieces (cuts_on slot (drop at steps)))
-  pub after : (before rest : List ItemShown) (n : Note) → puts (queue.Up number) es ≡ before ++ item.Note n ∷ rest → IsSince slot steps before rest n
+pub record SendsPieces (seat : Seat) (steps : List PlainStep) (es : List Entry) : Type 0 where
+  pub cuts : (at : ℕ) → CanAllBeCut (cuts_on seat.slot (drop at steps))
+  pub whole : IsBeginning (pushed_on seat.slot (puts (queue.Up seat.app) es)) (all_pieces (cuts_on seat.slot steps))
+  pub since : (first later : List Entry) (at : ℕ) → es ≡ first ++ later → IsAtStep at (state_after app_steps (opening seat.app steps) first)
+      → IsBeginning (pushed_on seat.slot (puts (queue.Up seat.app) later)) (all_pieces (cuts_on seat.slot (drop at steps)))
+  pub after : (before rest : List ItemShown) (n : Note) → puts (queue.Up seat.app) es ≡ before ++ item.Note n ∷ rest → IsSince seat.slot steps before rest n
 
 -- each log of an application whose steps are in their ranges shows as pushed, on each slot on which no step sends packets as it says, pieces of the blobs of
 -- its steps
 abbrev pub SendPieces : Type 0
 SendPieces =
-    (number slot : ℕ) (steps : List PlainStep) (es : List Entry) → slot < SLOTS → AllByRecursion IsStep steps → list_any (sends_packets slot) steps ≡ false → IsAppLog number steps es
-    → SendsPieces number slot steps es
+    (seat : Seat) (steps : List PlainStep) (es : List Entry) → seat.slot < SLOTS → AllByRecursion IsStep steps → list_any (sends_packets seat.slot) steps ≡ false → IsAppLog seat.app steps es
+    → SendsPieces seat steps es
