@@ -82,8 +82,8 @@ WaitForAnswers =
 
 -- ---- what is sent
 
--- a router sends on a reliable connection a beginning of what the application of its seat gives it on the slot from then on that the connection is open,
--- and nothing before
+-- a router sends on a reliable connection a beginning of what its application gives it on the slot from then on that the connection is open, and nothing
+-- before
 abbrev pub SendWhatComes : Type 0
 SendWhatComes =
     (f : Facts) (routes : Routes) (es first later : List Entry) (own : Entry) (seat : Seat) (nth at : ℕ) (peer : Option (ℕ × ℕ)) → IsRouterLog f routes es → es ≡ first ++ own ∷ later

@@ -1,6 +1,7 @@
 -- A record's reliable prefix, as its report shows the record's connections.
 use Rattle.std.proofs.Common.{◌≡◌, ℕ, zero, suc, ◌+◌, ◌<◌, Bool, true, false, cond, Option, None, Some, List, [], ◌∷◌, ◌++◌, length, unwrap_or, slice_get, refl, sym, ap, subst, ◌∙◌, append-nil, arith}
 use Rattle.std.specs.List.{AllByRecursion}
+use Rattle.csp_base.specs.Seat.{seat}
 use Rattle.csp_consistent.proofs.Public.{HasNone, AreApart, entries_in, none_there, who_same, who_is, are_apart}
 use Rattle.csp_topology.specs.Parties.{PlainOpening, parties_of, parties_from, parties_at, links_from, ifaces_from, apps_from}
 use Rattle.csp_prefix.specs.Prefix.{IsBeginning, IsOpened, took_on, sent_on, HasPeersPrefix, IsReliablePrefix}
@@ -140,10 +141,10 @@ module _ (scene : PlainScene) (r : PlainRecord) (are : AreLogsOf (parties_of sce
   are_numbered tell place number x shown = opened_numbered (is_who (who.Router place)) r.parties number shown.at x tell shown.opened
 
   took_same : (place number : ℕ) (x : Opening) → took_there r.parties place number x ≡ took_on r place number x
-  took_same place number x = ap (took number x.slot x.ordinal) (app_entries place number)
+  took_same place number x = ap (took (seat number x.slot) x.ordinal) (app_entries place number)
 
   sent_same : (place number : ℕ) (x : Opening) → sent_there r.parties place number x ≡ sent_on r place number x
-  sent_same place number x = ap (sent number x.slot x.ordinal) (router_entries place)
+  sent_same place number x = ap (sent (seat number x.slot) x.ordinal) (router_entries place)
 
   module _ (prefix : IsReliablePrefix r) (place number nth : ℕ) (x : Opening) (flow : ℕ × ℕ) (shown : IsShown scene.nodes r.parties place number x) (own : x.nth ≡ Some nth) (peers : x.peer ≡ Some flow) where
     theirs : HasPeersPrefix r place number x flow
