@@ -58,12 +58,12 @@ use Rattle.csp_stack.specs.Config.{opening_state}
 use Rattle.csp_stack.specs.Counting.{came_in, counting, was_full}
 use Rattle.csp_stack.specs.Readings.{is_checked, is_here, is_pushed, is_secured, item_in, buffer_in}
 use Rattle.csp_stack.specs.Router.{Facts, Leaving, State, at_rest, flows_of, router}
-use Rattle.csp_stack.specs.Rules.{◌>>=◌, Arrival, Decided, Left, Ruling, accepting, addressed, answer_flags, at_connection, by_answer, by_connection, by_mark, by_row, by_service, by_slot, by_socket, connection_of, for_this_node, forwarded, heard, invitation_of, inviting, is_lacking, is_mixed, made_on, not_reliable, not_secured, of_no_connection, on_connection, opening, owner_for, packet_in, requested, sent, sent_by, served, to_connection, to_machine, to_no_socket, to_slot, with_payload, without_checksum, sent_on}
+use Rattle.csp_stack.specs.Rules.{◌>>=◌, Arrival, Decided, Left, Ruling, accepting, addressed, answer_flags, at_connection, by_answer, by_connection, by_mark, by_row, by_service, by_slot, by_socket, connection_of, for_this_node, forwarded, heard, invitation_of, inviting, is_lacking, is_mixed, made_on, not_reliable, not_secured, of_no_connection, on_connection, opening, owner_for, packet_in, requested, sent, sent_where, served, to_connection, to_machine, to_no_socket, to_slot, with_payload, without_checksum, sent_on}
 use Rattle.csp_stack.specs.Serving.{facts_of, reply_in, with_facts}
 use Rattle.csp_stack.specs.Sources.{place_with_work, source_at}
 use Rattle.csp_stack.specs.Told.{Told, discarded, kept, leaving, ported, unchanged, with_ports}
 use Rattle.csp_stack.proofs.Public.{by_rest, heard_here}
-use Rattle.csp_stack.specs.Turn.{asked_at, asked_by, asks_at, brought, delivering, giving, jobs_by, no_room, plan_by, plan_for, plan_of, pushing, replying, timed, told_at, turn_of, work_at, work_found}
+use Rattle.csp_stack.specs.Turn.{asked_at, until_answer, asks_at, brought, delivering, giving, job_due, no_room, first_rule, plan_for, plan_of, pushing, replying, timed, told_at, turn_of, work_at, work_found}
 use Rattle.csp_stack.specs.declared.plan.Plan.{Plan}
 use Rattle.csp_stack.specs.declared.plan.Plan.TheVariants as plan
 use Rattle.csp_stack.specs.declared.sources.Source.{Source}
@@ -89,7 +89,7 @@ rules : (s : State) (r : Ruling) (next : Arrival → Told) → RulesSo s r → (
 rules s (Decided t) next h k = h
 rules s (Left p) next h k = k p
 
-sent_so : (own : Bool) (row : Option Row) (s : State) (b : Content) → Quiet s (sent_by own row s b)
+sent_so : (own : Bool) (row : Option Row) (s : State) (b : Content) → Quiet s (sent_where own row s b)
 sent_so true row s b = stays s.ports
 sent_so false None s b = stays s.ports
 sent_so false (Some row) s b = stays s.ports
@@ -245,7 +245,7 @@ module _ (f : Facts) (a : ℕ) where
 
   -- the state when the answer comes
   abbrev until : State → ℕ → Plan → State
-  until s time p = at_rest (asked_by f s time p)
+  until s time p = at_rest (until_answer f s time p)
 
   -- the ports after it
   abbrev ports_after : State → ℕ → Plan → AnswerShown → PlainPorts
@@ -380,7 +380,7 @@ module _ (f : Facts) (a : ℕ) where
   placed_task task.Deliver s low = low
   placed_task (task.Make j) s low = tt
 
-  placed_jobs : (os : List Owed) (o : Option (Seat × Task)) (time : ℕ) (p : PlainPorts) → next_task time p ≡ o → IsPlaced (jobs_by os o)
+  placed_jobs : (os : List Owed) (o : Option (Seat × Task)) (time : ℕ) (p : PlainPorts) → next_task time p ≡ o → IsPlaced (job_due os o)
   placed_jobs (o ∷ os) t time p e = tt
   placed_jobs [] None time p e = tt
   placed_jobs [] (Some t) time p e = placed_task t.1 t.0 (task_there time p t e).slot_there
@@ -394,7 +394,7 @@ module _ (f : Facts) (a : ℕ) where
   placed_found None s time = tt
   placed_found (Some k) s time = placed_at (source_at f k) s time
 
-  placed_by : (bs : List Content) (o : Option Leaving) (work : Plan) → IsPlaced work → IsPlaced (plan_by bs o work)
+  placed_by : (bs : List Content) (o : Option Leaving) (work : Plan) → IsPlaced work → IsPlaced (first_rule bs o work)
   placed_by (b ∷ bs) o work h = tt
   placed_by [] (Some o) work h = tt
   placed_by [] None work h = h

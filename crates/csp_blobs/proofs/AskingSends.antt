@@ -52,7 +52,7 @@ use Rattle.csp_stack.specs.Config.{opening_state}
 use Rattle.csp_stack.specs.Router.{Facts, Leaving, State, at_rest, flows_of, router}
 use Rattle.csp_stack.specs.Rules.{by_mark, by_slot, sent_on, served}
 use Rattle.csp_stack.specs.Told.{ported}
-use Rattle.csp_stack.specs.Turn.{asked_at, asked_by, delivering, giving, plan_of, pushing, replying, timed, told_at, turn_of}
+use Rattle.csp_stack.specs.Turn.{asked_at, until_answer, delivering, giving, plan_of, pushing, replying, timed, told_at, turn_of}
 use Rattle.csp_stack.specs.declared.plan.Plan.{Plan}
 use Rattle.csp_stack.specs.declared.plan.Plan.TheVariants as plan
 use Rattle.csp_ports.specs.declared.owed.Owed.{Owed}
@@ -96,7 +96,7 @@ serves f s time (plan.Make seat j) k e = absurd cc
 
 -- the state in which an item of an application is served
 abbrev serving : Facts → State → ℕ → ℕ → State
-serving f s time app = at_rest (asked_by f (timed s time) time (plan.Serve app))
+serving f s time app = at_rest (until_answer f (timed s time) time (plan.Serve app))
 
 -- a turn popped this packet of an application
 record IsPopped (e : Entry) (s : Seat) (b : Content) : Type 0 where

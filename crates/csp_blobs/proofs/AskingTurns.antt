@@ -25,7 +25,7 @@ use Rattle.csp_rdp.specs.declared.answers.State.TheVariants as state
 use Rattle.csp_record.specs.declared.connections.Opening.{Opening}
 use Rattle.csp_stack.specs.Router.{Facts, Leaving, State, at_rest, flows_of}
 use Rattle.csp_stack.specs.Told.{Told}
-use Rattle.csp_stack.specs.Turn.{asked_at, asked_by, plan_of, timed, told_at, turn_of}
+use Rattle.csp_stack.specs.Turn.{asked_at, until_answer, plan_of, timed, told_at, turn_of}
 use Rattle.csp_stack.specs.declared.plan.Plan.{Plan}
 use Rattle.csp_blobs.proofs.AskingShut.{IsShut, Keeps, beside, number_is, open_or_past, shut_kept, shut_not_plain, was_opened}
 
@@ -64,7 +64,7 @@ turns_on Is f k e h s step comes w =
     let t : State = timed s time in
     let p : Plan = plan_of f t time in
     let early : List Event = (ports_timed time s.ports).events in
-    let told : Told = (turn_of f (at_rest (asked_by f t time p)) time p).told a in
+    let told : Told = (turn_of f (at_rest (until_answer f t time p)) time p).told a in
     let after : Past = past_after (turn_of f t time p).asks a told.events (with_openings early h) in
     let events : e.events.items ≡ early ++ told.events = step.events ∙ events_are f s time a p refl in
     let same : after ≡ past_with e h =

@@ -142,7 +142,7 @@ IsHome f s = (shape s.ports ≡ (f.apps, f.apps * SLOTS)) × IsWithin (length f.
 abbrev Goes : Facts → Told → Type 0
 Goes f t = IsHome f t.state
 
-go_by : (own : Bool) (row : Option Row) (f : Facts) (s : State) (b : Content) → ((x : Row) → row ≡ Some x → x.iface < length f.ifaces) → IsHome f s → Goes f (rules.sent_by own row s b)
+go_by : (own : Bool) (row : Option Row) (f : Facts) (s : State) (b : Content) → ((x : Row) → row ≡ Some x → x.iface < length f.ifaces) → IsHome f s → Goes f (rules.sent_where own row s b)
 go_by true row f s b leads h = (h.0, h.1, tt)
 go_by false None f s b leads h = h
 go_by false (Some row) f s b leads h = (h.0, h.1, leads row refl)
@@ -336,7 +336,7 @@ task_in apps s task.Tell h = tt
 task_in apps s task.Deliver h = h
 task_in apps s (task.Make j) h = tt
 
-jobs_in : (f : Facts) (s : State) (time : ℕ) (owed : List Owed) (t : Option (Seat × Task)) → next_task time s.ports ≡ t → IsHome f s → PlansIn f.apps (turn.jobs_by owed t)
+jobs_in : (f : Facts) (s : State) (time : ℕ) (owed : List Owed) (t : Option (Seat × Task)) → next_task time s.ports ≡ t → IsHome f s → PlansIn f.apps (turn.job_due owed t)
 jobs_in f s time (_ ∷ _) t e h = tt
 jobs_in f s time [] None e h = tt
 jobs_in f s time [] (Some t) e h = task_in f.apps t.0 t.1 (subst (λ n. t.0.app < n) (ap (λ (x : ℕ × ℕ). x.0) h.0) (task_there time s.ports t e).app_there)
@@ -355,7 +355,7 @@ found_in f s time (Some k) h = work_in f s time k (k == 0) (nat_le k f.apps) ref
 plan_in : (f : Facts) (s : State) (time : ℕ) → IsHome f s → PlansIn f.apps (turn.plan_of f s time)
 plan_in f s time h = by s.trash s.out (turn.work_found f s time (place_with_work f s time)) (found_in f s time (place_with_work f s time) h)
   where
-    by : (trash : List Content) (out : Option Leaving) (work : Plan) → PlansIn f.apps work → PlansIn f.apps (turn.plan_by trash out work)
+    by : (trash : List Content) (out : Option Leaving) (work : Plan) → PlansIn f.apps work → PlansIn f.apps (turn.first_rule trash out work)
     by (_ ∷ _) out work here = tt
     by [] (Some o) work here = tt
     by [] None work here = here

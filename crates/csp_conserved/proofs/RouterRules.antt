@@ -53,7 +53,7 @@ use Rattle.csp_stack.specs.Comes.{heard_at_socket, heard_elsewhere, heard_at_por
 use Rattle.csp_stack.specs.Counting.{counting}
 use Rattle.csp_stack.specs.Readings.{is_checked, is_here, is_secured}
 use Rattle.csp_stack.specs.Router.{Facts, Leaving, State, flows_of, holds, router}
-use Rattle.csp_stack.specs.Rules.{◌>>=◌, Arrival, Decided, Left, accepting, addressed, answer_flags, arrival, by_answer, by_connection, by_mark, by_row, by_service, by_slot, by_socket, connection_of, forwarded, heard, invitation_of, inviting, is_lacking, is_mixed, opening, requested, sent, sent_by, sent_on, seat_for, served, to_connection, to_itself, to_machine, to_slot, with_payload}
+use Rattle.csp_stack.specs.Rules.{◌>>=◌, Arrival, Decided, Left, accepting, addressed, answer_flags, arrival, by_answer, by_connection, by_mark, by_row, by_service, by_slot, by_socket, connection_of, forwarded, heard, invitation_of, inviting, is_lacking, is_mixed, opening, requested, sent, sent_where, sent_on, seat_for, served, to_connection, to_itself, to_machine, to_slot, with_payload}
 use Rattle.csp_stack.specs.Serving.{facts_of, reply_header, reply_in, with_facts}
 use Rattle.csp_stack.specs.Told.{Told, absorbed, discarded, kept, leaving, ported, spent, unchanged, with_ports}
 use Rattle.csp_conserved.proofs.RouterPorts.{flows_handing, found_low, still_whole, terms_whole}
@@ -106,7 +106,7 @@ adds_both m s c b flows = (
 
 -- ---- sending
 
-sent_by_adds : (own : Bool) (row : Option Row) (s : State) (b : Content) → s.out ≡ None → AreWhole s.ports → Adds s (sent_by own row s b).state (b.number ∷ [])
+sent_by_adds : (own : Bool) (row : Option Row) (s : State) (b : Content) → s.out ≡ None → AreWhole s.ports → Adds s (sent_where own row s b).state (b.number ∷ [])
 sent_by_adds true row s b empty w = adds_leaving s (to_itself b) empty w
 sent_by_adds false None s b empty w = adds_discarded s why.NoRoute b w
 sent_by_adds false (Some row) s b empty w = adds_leaving s (by_row row b) empty w

@@ -43,7 +43,7 @@ use Rattle.csp_stack.specs.Router.{Facts, Leaving, Router, State, at_rest, holds
 use Rattle.csp_stack.specs.Rules.{addressed, made_on, packet_in}
 use Rattle.csp_stack.specs.Sources.{circle, has_work, place_with_work, source_at}
 use Rattle.csp_stack.specs.Told.{kept, ported, unchanged, with_ports}
-use Rattle.csp_stack.specs.Turn.{asked_by, brought, delivering, giving, jobs_by, kept_back, no_room, plan_by, plan_for, pushing, replying, timed, turn_of, work_at, work_found}
+use Rattle.csp_stack.specs.Turn.{until_answer, brought, delivering, giving, job_due, kept_back, no_room, first_rule, plan_for, pushing, replying, timed, turn_of, work_at, work_found}
 use Rattle.csp_stack.specs.Readings.{buffer_in, is_pushed, item_in}
 use Rattle.csp_stack.specs.declared.plan.Plan.{Plan}
 use Rattle.csp_stack.specs.declared.plan.Plan.TheVariants as plan
@@ -68,7 +68,7 @@ back_adds (item.Note n) h w = adds_none h w
 
 module _ (f : Facts) (few : f.apps ≤ MAX_APPS) where
   abbrev after_told : State → ℕ → Plan → AnswerShown → State
-  after_told s time p a = ((turn_of f (at_rest (asked_by f s time p)) time p).told a).state
+  after_told s time p a = ((turn_of f (at_rest (until_answer f s time p)) time p).told a).state
 
   -- a turn of this plan keeps the numbers
   abbrev TurnsBy : State → ℕ → Plan → AnswerShown → Type 0
@@ -79,7 +79,7 @@ module _ (f : Facts) (few : f.apps ≤ MAX_APPS) where
   turn_rest s time answer.Nothing w fits comes = (λ k. omega arith, w)
   turn_rest s time a w fits comes = absurd fits
 
-  giving_first : (trash : List Content) (s : State) (time : ℕ) → s.trash ≡ trash → (k : ℕ) → times k (holds (at_rest (asked_by f s time plan.Give))) + times k (op_numbers (giving trash)) ≡ times k (holds s)
+  giving_first : (trash : List Content) (s : State) (time : ℕ) → s.trash ≡ trash → (k : ℕ) → times k (holds (at_rest (until_answer f s time plan.Give))) + times k (op_numbers (giving trash)) ≡ times k (holds s)
   giving_first [] s time e k = omega (arith, holds_apart k s.trash s.out s.ports, holds_apart k (drop 1 s.trash) s.out s.ports, ap (λ t. times k (numbers_of t)) e, ap (λ (t : List Content). times k (numbers_of (drop 1 t))) e)
   giving_first (b ∷ bs) s time e k =
       omega (arith, holds_apart k s.trash s.out s.ports, holds_apart k (drop 1 s.trash) s.out s.ports, ap (λ t. times k (numbers_of t)) e, ap (λ (t : List Content). times k (numbers_of (drop 1 t))) e, times_both k (b ∷ []) bs)
@@ -93,11 +93,11 @@ module _ (f : Facts) (few : f.apps ≤ MAX_APPS) where
 
   turn_give : (s : State) (time : ℕ) (a : AnswerShown) → AreWhole s.ports → TurnsBy s time plan.Give a
   turn_give s time a w fits comes =
-      let h : State = at_rest (asked_by f s time plan.Give) in
+      let h : State = at_rest (until_answer f s time plan.Give) in
       moves_by s h (after_told s time plan.Give a) (op_numbers (giving s.trash)) (answer_numbers a) (giving_first s.trash s time refl) (giving_told s.trash h a w fits)
 
   -- ---- a packet that is to go out
-  pushing_first : (o : Option Leaving) (q : QueueId) (bytes : ℕ) (s : State) (time : ℕ) → s.out ≡ o → (k : ℕ) → times k (holds (at_rest (asked_by f s time (plan.Push q bytes)))) + times k (op_numbers (pushing o)) ≡ times k (holds s)
+  pushing_first : (o : Option Leaving) (q : QueueId) (bytes : ℕ) (s : State) (time : ℕ) → s.out ≡ o → (k : ℕ) → times k (holds (at_rest (until_answer f s time (plan.Push q bytes)))) + times k (op_numbers (pushing o)) ≡ times k (holds s)
   pushing_first None q bytes s time e k = omega (arith, holds_apart k s.trash s.out s.ports, holds_apart k s.trash None s.ports, ap (λ x. times k (numbers_of (out_buffers x))) e)
   pushing_first (Some o) q bytes s time e k = omega (arith, holds_apart k s.trash s.out s.ports, holds_apart k s.trash None s.ports, ap (λ x. times k (numbers_of (out_buffers x))) e)
 
@@ -110,13 +110,13 @@ module _ (f : Facts) (few : f.apps ≤ MAX_APPS) where
 
   turn_push : (q : QueueId) (bytes : ℕ) (s : State) (time : ℕ) (a : AnswerShown) → AreWhole s.ports → TurnsBy s time (plan.Push q bytes) a
   turn_push q bytes s time a w fits comes =
-      let h : State = at_rest (asked_by f s time (plan.Push q bytes)) in
+      let h : State = at_rest (until_answer f s time (plan.Push q bytes)) in
       moves_by s h (after_told s time (plan.Push q bytes) a) (op_numbers (pushing s.out)) (answer_numbers a) (pushing_first s.out q bytes s time refl) (pushing_told s.out q bytes h a w fits)
 
   -- ---- a packet of the inbox, and an item of an application
   turn_hear : (s : State) (time : ℕ) (a : AnswerShown) → s.out ≡ None → AreWhole s.ports → TurnsBy s time plan.Hear a
   turn_hear s time (answer.Popped (item.Packet mark b)) empty w fits comes =
-      let h : State = came_in (at_rest (asked_by f s time plan.Hear)) mark b in
+      let h : State = came_in (at_rest (until_answer f s time plan.Hear)) mark b in
       moves_by s h (after_told s time plan.Hear (answer.Popped (item.Packet mark b))) [] (b.number ∷ []) (λ k. omega arith) (heard_adds f h empty w time mark b)
   turn_hear s time (answer.Popped (item.Frame frame)) empty w fits comes = (λ k. omega arith, w)
   turn_hear s time (answer.Popped (item.Note n)) empty w fits comes = (λ k. omega arith, w)
@@ -125,7 +125,7 @@ module _ (f : Facts) (few : f.apps ≤ MAX_APPS) where
 
   turn_serve : (app : ℕ) (s : State) (time : ℕ) (a : AnswerShown) → app < f.apps → stalled_at s.ports app ≡ None → s.out ≡ None → AreWhole s.ports → TurnsBy s time (plan.Serve app) a
   turn_serve app s time (answer.Popped i) low free empty w fits comes =
-      let h : State = at_rest (asked_by f s time (plan.Serve app)) in
+      let h : State = at_rest (until_answer f s time (plan.Serve app)) in
       moves_by s h (after_told s time (plan.Serve app) (answer.Popped i)) [] (item_numbers i) (λ k. omega arith) (served_adds i f h app time (omega (arith, low, few)) comes.0 free empty w)
   turn_serve app s time answer.Empty low free empty w fits comes = (λ k. omega arith, w)
   turn_serve app s time a low free empty w fits comes = absurd fits
@@ -144,7 +144,7 @@ module _ (f : Facts) (few : f.apps ≤ MAX_APPS) where
 
   turn_reply : (app : ℕ) (s : State) (time : ℕ) (a : AnswerShown) → AreWhole s.ports → TurnsBy s time (plan.Reply app) a
   turn_reply app s time a w fits comes =
-      let h : State = at_rest (asked_by f s time (plan.Reply app)) in
+      let h : State = at_rest (until_answer f s time (plan.Reply app)) in
       moves_by s h (after_told s time (plan.Reply app) a) (op_numbers (replying s.ports.owed)) (answer_numbers a) (λ k. omega (arith, ap (times k) (replying_none s.ports.owed))) (replying_told s.ports.owed h a w fits)
 
   -- ---- a Down note
@@ -156,13 +156,13 @@ module _ (f : Facts) (few : f.apps ≤ MAX_APPS) where
         terms_whole q seat terms (turned_whole s.ports seat w),
       )
   turn_tell seat s time (answer.Full i) w fits comes =
-      let h : State = at_rest (asked_by f s time (plan.Tell seat)) in
+      let h : State = at_rest (until_answer f s time (plan.Tell seat)) in
       moves_by s h (after_told s time (plan.Tell seat) (answer.Full i)) [] (item_numbers i) (λ k. omega arith) (back_adds i h (turned_whole s.ports seat w))
   turn_tell seat s time a w fits comes = absurd fits
 
   -- ---- a packet that is delivered
   taken_first : (seat : Seat) (b : PlainBuffer) (s : State) (time : ℕ) → place_of seat < 16 → delivery (machine_at s.ports seat) ≡ Some b → AreWhole s.ports
-      → (k : ℕ) → times k (holds (at_rest (asked_by f s time (plan.Deliver seat)))) + times k (b.picture.number ∷ []) ≡ times k (holds s)
+      → (k : ℕ) → times k (holds (at_rest (until_answer f s time (plan.Deliver seat)))) + times k (b.picture.number ∷ []) ≡ times k (holds s)
   taken_first seat b s time there e w k =
       let q : PlainPorts = turned seat s.ports in
       let flows = flows_taken q seat b there (turned_whole s.ports seat w) e in
@@ -199,7 +199,7 @@ module _ (f : Facts) (few : f.apps ≤ MAX_APPS) where
       let opened : (machine_at q seat).state ≡ state.Open = delivers_open (machine_at s.ports seat) b e in
       let taken = now_taken q seat there whole opened in
       let flows = flows_taken q seat b there whole e in
-      let h : State = at_rest (asked_by f s time (plan.Deliver seat)) in
+      let h : State = at_rest (until_answer f s time (plan.Deliver seat)) in
       moves_by s h (after_told s time (plan.Deliver seat) a) (b.picture.number ∷ []) (answer_numbers a) (taken_first seat b s time there e w)
       (delivering_told seat time b.picture h a low there taken.0 taken.1 flows.whole fits)
 
@@ -216,7 +216,7 @@ module _ (f : Facts) (few : f.apps ≤ MAX_APPS) where
 
   turn_make : (seat : Seat) (j : Job) (s : State) (time : ℕ) (a : AnswerShown) → seat.app < 4 → seat.slot < 4 → s.out ≡ None → AreWhole s.ports → TurnsBy s time (plan.Make seat j) a
   turn_make seat j s time (answer.Taken b) low least empty w fits comes =
-      let h : State = at_rest (asked_by f s time (plan.Make seat j)) in
+      let h : State = at_rest (until_answer f s time (plan.Make seat j)) in
       moves_by s h (after_told s time (plan.Make seat j) (answer.Taken b)) [] (b.number ∷ []) (λ k. omega arith)
       (made_adds (slot_at h.ports.conns seat) seat j time b h (omega (arith, low, least)) empty (turned_whole s.ports seat w))
   turn_make seat j s time answer.NoBuffer low least empty w fits comes = (λ k. omega arith, turned_whole s.ports seat w)
@@ -229,7 +229,7 @@ module _ (f : Facts) (few : f.apps ≤ MAX_APPS) where
       turn_deliver (delivery (machine_at s.ports seat)) seat s time a (omega (arith, is.app_there, w.few)) is.slot_there refl (deliver_job time s.ports seat is.is_task) w fits
   turn_task (task.Make j) seat s time a is empty w = turn_make seat j s time a (omega (arith, is.app_there, w.few)) is.slot_there empty w
 
-  turn_jobs : (owed : List Owed) (o : Option (Seat × Task)) (s : State) (time : ℕ) (a : AnswerShown) → next_task time s.ports ≡ o → s.out ≡ None → AreWhole s.ports → TurnsBy s time (jobs_by owed o) a
+  turn_jobs : (owed : List Owed) (o : Option (Seat × Task)) (s : State) (time : ℕ) (a : AnswerShown) → next_task time s.ports ≡ o → s.out ≡ None → AreWhole s.ports → TurnsBy s time (job_due owed o) a
   turn_jobs (x ∷ xs) o s time a e empty w = turn_reply x.app s time a w
   turn_jobs [] (Some t) s time a e empty w = turn_task t.1 t.0 s time a (task_there time s.ports t e) empty w
   turn_jobs [] None s time a e empty w = turn_rest s time a w
@@ -249,7 +249,7 @@ module _ (f : Facts) (few : f.apps ≤ MAX_APPS) where
   turn_place (Some place) s time a e empty w =
       turn_source (place == 0) (nat_le place f.apps) place s time a refl refl (found_passes (λ x. has_work s time (source_at f x)) (circle f s.cursor) place e) empty w
 
-  turn_plan : (trash : List Content) (o : Option Leaving) (s : State) (time : ℕ) (a : AnswerShown) → s.out ≡ o → AreWhole s.ports → TurnsBy s time (plan_by trash o (work_found f s time (place_with_work f s time))) a
+  turn_plan : (trash : List Content) (o : Option Leaving) (s : State) (time : ℕ) (a : AnswerShown) → s.out ≡ o → AreWhole s.ports → TurnsBy s time (first_rule trash o (work_found f s time (place_with_work f s time))) a
   turn_plan (b ∷ bs) o s time a e w = turn_give s time a w
   turn_plan [] (Some o) s time a e w = turn_push o.queue (length o.buffer.payload) s time a w
   turn_plan [] None s time a e w = turn_place (place_with_work f s time) s time a refl e w

@@ -58,7 +58,7 @@ abbrev Goes : Told → Type 0
 Goes t = IsOutward t.state.out
 
 -- whatever a rule makes of a packet goes there, where what was to go out did
-go_sent : (own : Bool) (row : Option Row) (s : State) (b : Content) → IsOutward s.out → Goes (rules.sent_by own row s b)
+go_sent : (own : Bool) (row : Option Row) (s : State) (b : Content) → IsOutward s.out → Goes (rules.sent_where own row s b)
 go_sent true row s b h = refl
 go_sent false None s b h = h
 go_sent false (Some row) s b h = tt

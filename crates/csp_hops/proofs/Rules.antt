@@ -67,7 +67,7 @@ either false t u one other = other
 
 -- ---- sending
 
-sent_by_marks : (own : Bool) (row : Option Row) (s : State) (b : Content) → IfSome row Marks → IsMarking s → IsTold (rules.sent_by own row s b)
+sent_by_marks : (own : Bool) (row : Option Row) (s : State) (b : Content) → IfSome row Marks → IsMarking s → IsTold (rules.sent_where own row s b)
 sent_by_marks true row s b marks h = (tt, h.1)
 sent_by_marks false None s b marks h = h
 sent_by_marks false (Some row) s b marks h = (marks, h.1)

@@ -17,7 +17,7 @@ use Rattle.csp_rdp.specs.declared.jobs.Job.{Job}
 use Rattle.csp_route.specs.Routes.{Routes}
 use Rattle.csp_stack.specs.Config.{opening_state}
 use Rattle.csp_stack.specs.Router.{Facts, Leaving, State, at_rest, flows_of}
-use Rattle.csp_stack.specs.Turn.{asked_at, asked_by, asks_at, plan_of, timed, told_at, turn_of}
+use Rattle.csp_stack.specs.Turn.{asked_at, until_answer, asks_at, plan_of, timed, told_at, turn_of}
 use Rattle.csp_prefix.specs.Machines.{IsSender}
 use Rattle.csp_prefix.specs.Ports.{IsReliableOn, now_at}
 use Rattle.csp_prefix.specs.Routers.{ComesSo, IsRouterLog, opening_router, router_steps}
@@ -107,7 +107,7 @@ module _ (Is : Numbering → Seat → Now → Type 0) (f : Facts) (is_aim : (who
   since_told s time a fits comes w =
       let t : State = timed s time in
       record {
-        tells = past_after (asks_at f s time) a ((turn_of f (at_rest (asked_by f t time (plan_of f t time))) time (plan_of f t time)).told a).events w.tells;
+        tells = past_after (asks_at f s time) a ((turn_of f (at_rest (until_answer f t time (plan_of f t time))) time (plan_of f t time)).told a).events w.tells;
         stands = known_turns Is f is_aim w.tells s time a fits comes w.stands;
         since = w.since;
       }

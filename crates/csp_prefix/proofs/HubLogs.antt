@@ -42,7 +42,7 @@ use Rattle.csp_record.specs.Transmissions.{fetched, is_beginning, shown_in}
 use Rattle.csp_scene.proofs.Public.{AllByRecursion-append}
 use Rattle.csp_stack.specs.Router.{Facts, Leaving, Router, State}
 use Rattle.csp_stack.specs.Sources.{place_with_work}
-use Rattle.csp_stack.specs.Turn.{delivering, giving, jobs_by, plan_by, plan_for, plan_of, pushing, replying, timed, turn_of, work_at, work_found}
+use Rattle.csp_stack.specs.Turn.{delivering, giving, job_due, first_rule, plan_for, plan_of, pushing, replying, timed, turn_of, work_at, work_found}
 use Rattle.csp_stack.specs.declared.plan.Plan.{Plan}
 use Rattle.csp_stack.specs.declared.plan.Plan.TheVariants as plan
 use Rattle.csp_stack.specs.declared.sources.Source.TheVariants as source
@@ -77,7 +77,7 @@ own_job apps seat task.Tell = tt
 own_job apps seat task.Deliver = tt
 own_job apps seat (task.Make j) = tt
 
-own_jobs : (apps : ℕ) (owed : List Owed) (t : Option (Seat × Task)) → PlansOwn apps (jobs_by owed t)
+own_jobs : (apps : ℕ) (owed : List Owed) (t : Option (Seat × Task)) → PlansOwn apps (job_due owed t)
 own_jobs apps (_ ∷ _) t = tt
 own_jobs apps [] None = tt
 own_jobs apps [] (Some t) = own_job apps t.0 t.1
@@ -93,7 +93,7 @@ own_found : (f : Facts) (s : State) (time : ℕ) (place : Option ℕ) → PlansO
 own_found f s time None = tt
 own_found f s time (Some k) = own_work f.apps k s time (k == 0) (nat_le k f.apps) refl refl
 
-own_plan : (apps : ℕ) (trash : List Content) (out : Option Leaving) (work : Plan) → PlansOwn apps work → PlansOwn apps (plan_by trash out work)
+own_plan : (apps : ℕ) (trash : List Content) (out : Option Leaving) (work : Plan) → PlansOwn apps work → PlansOwn apps (first_rule trash out work)
 own_plan apps (_ ∷ _) out work h = tt
 own_plan apps [] (Some o) work h = tt
 own_plan apps [] None work h = h

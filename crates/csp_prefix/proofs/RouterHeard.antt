@@ -49,7 +49,7 @@ use Rattle.csp_stack.proofs.Public.{by_rest, heard_here}
 use Rattle.csp_stack.specs.Comes.{heard_at_port, heard_at_socket, heard_elsewhere}
 use Rattle.csp_stack.specs.Readings.{is_checked, is_here, is_secured}
 use Rattle.csp_stack.specs.Router.{Facts, Leaving, State, flows_of, router}
-use Rattle.csp_stack.specs.Rules.{◌>>=◌, Arrival, Decided, Left, accepting, answer_flags, arrival, asked_by, asked_with, by_answer, by_connection, by_row, by_service, by_socket, connection_of, differs, forwarded, heard, invitation_in, inviting, is_lacking, is_mixed, opening, sent, seat_for, sent_by, to_connection, to_itself, to_machine, to_slot, with_payload}
+use Rattle.csp_stack.specs.Rules.{◌>>=◌, Arrival, Decided, Left, accepting, answer_flags, arrival, syn_alone, asked_with, by_answer, by_connection, by_row, by_service, by_socket, connection_of, differs, forwarded, heard, invitation_in, inviting, is_lacking, is_mixed, opening, sent, seat_for, sent_where, to_connection, to_itself, to_machine, to_slot, with_payload}
 use Rattle.csp_stack.specs.Sending.{protected}
 use Rattle.csp_stack.specs.Serving.{facts_of, reply_header, reply_in, with_facts}
 use Rattle.csp_stack.specs.Told.{Told, discarded, leaving, spent, unchanged}
@@ -142,7 +142,7 @@ module _ (g : Aim) (f : Facts) (whole : Past) (k : IsAim g f whole) where
   pub stands_leaving : (h : Past) (s : State) (o : Leaving) (w : Stands g f h s.ports s.out) → IsOut g f.apps w.books (Some o) → Quietly h (leaving s o)
   stands_leaving h s o w out fresh = subst (λ x. Stands g f x s.ports (Some o)) (no_openings h) (record { numbering = w.numbering; books = w.books; good = w.good; tells = w.tells; apps = w.apps; out = out })
 
-  sent_so : (own : Bool) (row : Option Row) (h : Past) (s : State) (b : Content) → Stands g f h s.ports s.out → g.good b → Quietly h (sent_by own row s b)
+  sent_so : (own : Bool) (row : Option Row) (h : Past) (s : State) (b : Content) → Stands g f h s.ports s.out → g.good b → Quietly h (sent_where own row s b)
   sent_so true row h s b w good = stands_leaving h s (to_itself b) w good
   sent_so false None h s b w good = stands_discarded h s why.NoRoute b w
   sent_so false (Some row) h s b w good = stands_leaving h s (by_row row b) w (inl good)
@@ -251,7 +251,7 @@ module _ (g : Aim) (f : Facts) (whole : Past) (k : IsAim g f whole) where
   asked_with_so x (Ok options) h tag e so = (e, so)
 
   asked_by_so : (syn other : Bool) (b : Content) (bytes : List ℕ) (read : List ℕ × RdpHead) → has_flag read.1 SYN ≡ syn → g.hears b → IsRead f b bytes read
-      → IsAsked (header_at b.header) (asked_by syn other read.0 read.1 b.trace.tag)
+      → IsAsked (header_at b.header) (syn_alone syn other read.0 read.1 b.trace.tag)
   asked_by_so false other b bytes read e hears known = tt
   asked_by_so true true b bytes read e hears known = tt
   asked_by_so true false b bytes read e hears known = asked_with_so (header_at b.header) (judged read.0) read.1 b.trace.tag e (k.asks b bytes read hears known e)

@@ -20,7 +20,7 @@ use Rattle.csp_ports.specs.declared.terms.Terms.{Terms}
 use Rattle.csp_scene.proofs.Public.{AllByRecursion-map}
 use Rattle.csp_stack.specs.Router.{Facts, Leaving, State, at_rest, flows_of}
 use Rattle.csp_stack.specs.Told.{Told}
-use Rattle.csp_stack.specs.Turn.{asked_at, asked_by, asks_at, plan_of, timed, told_at, turn_of}
+use Rattle.csp_stack.specs.Turn.{asked_at, until_answer, asks_at, plan_of, timed, told_at, turn_of}
 use Rattle.csp_prefix.specs.Machines.{whatever}
 use Rattle.csp_prefix.specs.Ports.{AreGood, Books, IsInUse, IsSlot, Ordinals, now_at}
 use Rattle.csp_prefix.specs.Routers.{ComesSo}
@@ -121,10 +121,10 @@ hears_any Is _ _ = tt
 -- the rest of it, once the timers were tried
 pub known_turns : (Is : Numbering → Seat → Now → Type 0) (f : Facts) → ((whole : Past) → IsAim (known_aim Is) f whole) → (h : Past) (s : State) (time : ℕ) (a : AnswerShown) → Fits (asks_at f s time) a → ComesSo (asks_at f s time) a
     → Stands (known_aim Is) f h (timed s time).ports (timed s time).out
-    → Stands (known_aim Is) f (past_after (asks_at f s time) a ((turn_of f (at_rest (asked_by f (timed s time) time (plan_of f (timed s time) time))) time (plan_of f (timed s time) time)).told a).events h)
+    → Stands (known_aim Is) f (past_after (asks_at f s time) a ((turn_of f (at_rest (until_answer f (timed s time) time (plan_of f (timed s time) time))) time (plan_of f (timed s time) time)).told a).events h)
     (told_at f (asked_at f s time) time a).state.ports (told_at f (asked_at f s time) time a).state.out
 known_turns Is f is_aim h s time a fits comes w =
     let t : State = timed s time in
-    let told : Told = (turn_of f (at_rest (asked_by f t time (plan_of f t time))) time (plan_of f t time)).told a in
+    let told : Told = (turn_of f (at_rest (until_answer f t time (plan_of f t time))) time (plan_of f t time)).told a in
     let later : Past = past_after (asks_at f s time) a told.events h in
     (turn_plan (known_aim Is) f later (is_aim later) t.trash t.out h t time a (λ seat j few low owed. tt) refl w fits comes (hears_any Is (asks_at f s time) a) (part_all later) (each_any {X = Event} (λ e. ⊤) told.events (λ e. tt))).0

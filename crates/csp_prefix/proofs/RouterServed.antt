@@ -44,7 +44,7 @@ use Rattle.csp_socket.specs.Bound.{owner_of}
 use Rattle.csp_socket.specs.declared.sockets.TheConstants.{BINDABLE_PORTS}
 use Rattle.csp_stack.specs.Readings.{is_checked}
 use Rattle.csp_stack.specs.Router.{Facts, State, flows_of, router}
-use Rattle.csp_stack.specs.Rules.{addressed, by_mark, by_slot, header_for, requested, sent, sent_by, sent_on, served}
+use Rattle.csp_stack.specs.Rules.{addressed, by_mark, by_slot, header_for, requested, sent, sent_where, sent_on, served}
 use Rattle.csp_stack.specs.Told.{Told, discarded, ported}
 use Rattle.csp_prefix.specs.Ports.{AreGood, Books, IsInUse, IsSlot, Submits, is_same, now_at, with_sent}
 use Rattle.csp_prefix.specs.Routers.{IsUntraced}
@@ -118,7 +118,7 @@ module _ (g : Aim) (f : Facts) (whole : Past) (k : IsAim g f whole) where
     unsent : AreUnsent t.events
     none : (app : ℕ) (ends : Ends) → flat_map (opened_by app ends) t.events ≡ []
 
-  sent_off : (own : Bool) (row : Option Row) (s : State) (b : Content) → s.out ≡ None → g.good b → IsSentOff s (sent_by own row s b)
+  sent_off : (own : Bool) (row : Option Row) (s : State) (b : Content) → s.out ≡ None → g.good b → IsSentOff s (sent_where own row s b)
   sent_off true row s b empty good = record { ports = refl; leaves = λ books. good; unsent = unsent_none; none = λ app ends. refl }
   sent_off false None s b empty good = record { ports = refl; leaves = λ books. subst (IsOut g f.apps books) (sym empty) tt; unsent = discarded_unsent why.NoRoute; none = λ app ends. refl }
   sent_off false (Some row) s b empty good = record { ports = refl; leaves = λ books. inl good; unsent = unsent_none; none = λ app ends. refl }

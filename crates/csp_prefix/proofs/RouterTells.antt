@@ -76,10 +76,10 @@ use Rattle.csp_stack.specs.Comes.{heard_at_port, heard_at_socket, heard_elsewher
 use Rattle.csp_stack.specs.Counting.{came_in, counting, was_full}
 use Rattle.csp_stack.specs.Readings.{buffer_in, is_checked, is_here, is_pushed, is_secured, item_in}
 use Rattle.csp_stack.specs.Router.{Facts, Router, State, at_rest, flows_of, router}
-use Rattle.csp_stack.specs.Rules.{Arrival, Decided, Left, accepting, addressed, arrival, by_answer, by_connection, by_mark, by_row, by_service, by_slot, by_socket, connection_of, differs, forwarded, heard, invitation_of, inviting, is_lacking, is_mixed, made_on, opening, owner_for, packet_in, requested, seat_for, sent, sent_by, sent_on, served, to_connection, to_machine, to_slot, with_payload, ◌>>=◌}
+use Rattle.csp_stack.specs.Rules.{Arrival, Decided, Left, accepting, addressed, arrival, by_answer, by_connection, by_mark, by_row, by_service, by_slot, by_socket, connection_of, differs, forwarded, heard, invitation_of, inviting, is_lacking, is_mixed, made_on, opening, owner_for, packet_in, requested, seat_for, sent, sent_where, sent_on, served, to_connection, to_machine, to_slot, with_payload, ◌>>=◌}
 use Rattle.csp_stack.specs.Serving.{facts_of, reply_in, with_facts}
 use Rattle.csp_stack.specs.Told.{Told, discarded, kept, leaving, ported, unchanged, with_ports}
-use Rattle.csp_stack.specs.Turn.{asked_at, asked_by, asks_at, brought, no_room, plan_of, timed, told_at, turn_of}
+use Rattle.csp_stack.specs.Turn.{asked_at, until_answer, asks_at, brought, no_room, plan_of, timed, told_at, turn_of}
 use Rattle.csp_stack.specs.declared.plan.Plan.{Plan}
 use Rattle.csp_stack.specs.declared.plan.Plan.TheVariants as plan
 use Rattle.csp_prefix.specs.Routers.{router_steps}
@@ -246,7 +246,7 @@ module _ (P : Event → Type 0) (lost : (reason : Discard) → P (event.Discarde
       )
 
   -- a packet of the node is sent
-  sent_by_so : (own : Bool) (row : Option Row) (s : State) (b : Content) → Each (sent_by own row s b).events
+  sent_by_so : (own : Bool) (row : Option Row) (s : State) (b : Content) → Each (sent_where own row s b).events
   sent_by_so true row s b = tt
   sent_by_so false None s b = (lost why.NoRoute, tt)
   sent_by_so false (Some row) s b = tt
@@ -500,31 +500,31 @@ hearing_tells f s time answer.Empty fits = tt
 hearing_tells f s time a fits = absurd fits
 
 -- the events of a plan that hears nothing
-quietly : (q : Plan) (f : Facts) (s : State) (time : ℕ) (a : AnswerShown) → AreCalm ((turn_of f (at_rest (asked_by f s time q)) time q).told a).events → AllByRecursion (TellsAt f s.ports (turn_of f s time q).asks a) ((turn_of f (at_rest (asked_by f s time q)) time q).told a).events
-quietly q f s time a all = AllByRecursion-map IsCalm (TellsAt f s.ports (turn_of f s time q).asks a) ((turn_of f (at_rest (asked_by f s time q)) time q).told a).events (calm_tells f s.ports (turn_of f s time q).asks a) all
+quietly : (q : Plan) (f : Facts) (s : State) (time : ℕ) (a : AnswerShown) → AreCalm ((turn_of f (at_rest (until_answer f s time q)) time q).told a).events → AllByRecursion (TellsAt f s.ports (turn_of f s time q).asks a) ((turn_of f (at_rest (until_answer f s time q)) time q).told a).events
+quietly q f s time a all = AllByRecursion-map IsCalm (TellsAt f s.ports (turn_of f s time q).asks a) ((turn_of f (at_rest (until_answer f s time q)) time q).told a).events (calm_tells f s.ports (turn_of f s time q).asks a) all
 
-plan_tells : (q : Plan) (f : Facts) (s : State) (time : ℕ) (a : AnswerShown) → Fits (turn_of f s time q).asks a → AllByRecursion (TellsAt f s.ports (turn_of f s time q).asks a) ((turn_of f (at_rest (asked_by f s time q)) time q).told a).events
-plan_tells plan.Hear f s time a fits = hearing_tells f (at_rest (asked_by f s time plan.Hear)) time a fits
+plan_tells : (q : Plan) (f : Facts) (s : State) (time : ℕ) (a : AnswerShown) → Fits (turn_of f s time q).asks a → AllByRecursion (TellsAt f s.ports (turn_of f s time q).asks a) ((turn_of f (at_rest (until_answer f s time q)) time q).told a).events
+plan_tells plan.Hear f s time a fits = hearing_tells f (at_rest (until_answer f s time plan.Hear)) time a fits
 plan_tells plan.Rest f s time a fits = tt
-plan_tells plan.Give f s time a fits = let t : State = at_rest (asked_by f s time plan.Give) in quietly plan.Give f s time a (brought_calm t (kept t) (buffer_in a) (λ b. tt))
+plan_tells plan.Give f s time a fits = let t : State = at_rest (until_answer f s time plan.Give) in quietly plan.Give f s time a (brought_calm t (kept t) (buffer_in a) (λ b. tt))
 plan_tells (plan.Push q n) f s time a fits =
-    let t : State = at_rest (asked_by f s time (plan.Push q n)) in
+    let t : State = at_rest (until_answer f s time (plan.Push q n)) in
     quietly (plan.Push q n) f s time a (pushed_calm (is_pushed a) _ _ tt (back_calm (was_full t q) (packet_in (item_in a))))
 plan_tells (plan.Serve k) f s time a fits =
-    let t : State = at_rest (asked_by f s time (plan.Serve k)) in
+    let t : State = at_rest (until_answer f s time (plan.Serve k)) in
     quietly (plan.Serve k) f s time a (brought_calm t (served f t time k) (item_in a) (λ i. served_calm f t time k i))
 plan_tells (plan.Reply k) f s time a fits =
-    let t : State = at_rest (asked_by f s time (plan.Reply k)) in
+    let t : State = at_rest (until_answer f s time (plan.Reply k)) in
     quietly (plan.Reply k) f s time a (pushed_calm (is_pushed a) _ _ (answered_calm t.ports.owed t.ports) (back_calm t (packet_in (item_in a))))
 plan_tells (plan.Tell seat) f s time a fits =
-    let t : State = at_rest (asked_by f s time (plan.Tell seat)) in
+    let t : State = at_rest (until_answer f s time (plan.Tell seat)) in
     quietly (plan.Tell seat) f s time a (pushed_calm (is_pushed a) _ _ tt (back_calm t (packet_in (item_in a))))
 plan_tells (plan.Deliver seat) f s time a fits =
-    let t : State = at_rest (asked_by f s time (plan.Deliver seat)) in
+    let t : State = at_rest (until_answer f s time (plan.Deliver seat)) in
     quietly (plan.Deliver seat) f s time a (pushed_calm (is_pushed a) _ _ (delivered_so IsCalm lost_calm time seat t.ports)
     (brought_calm t (λ p. unchanged (with_ports t (kept_again seat p.buffer t.ports))) (packet_in (item_in a)) (λ p. tt)))
 plan_tells (plan.Make seat j) f s time a fits =
-    let t : State = at_rest (asked_by f s time (plan.Make seat j)) in
+    let t : State = at_rest (until_answer f s time (plan.Make seat j)) in
     quietly (plan.Make seat j) f s time a (brought_calm t (made_on (slot_at t.ports.conns seat) (seat, j) (router f t) time) (buffer_in a) (λ b. made_calm (slot_at t.ports.conns seat) (seat, j) (router f t) time b))
 
 -- ---- a whole turn
@@ -542,10 +542,10 @@ until_early f s time (plan.Make seat j) = refl
 
 -- what the turn's events are: those of its timers, then those of its plan
 pub events_are : (f : Facts) (s : State) (time : ℕ) (a : AnswerShown) (q : Plan) → plan_of f (timed s time) time ≡ q
-    → (told_at f (asked_at f s time) time a).events ≡ (ports_timed time s.ports).events ++ ((turn_of f (at_rest (asked_by f (timed s time) time q)) time q).told a).events
+    → (told_at f (asked_at f s time) time a).events ≡ (ports_timed time s.ports).events ++ ((turn_of f (at_rest (until_answer f (timed s time) time q)) time q).told a).events
 events_are f s time a q e =
     let t : State = timed s time in
-    ap (λ p. (turn_of f t time p).until.early ++ ((turn_of f (at_rest (asked_by f t time p)) time p).told a).events) e ∙ ap (λ es. es ++ ((turn_of f (at_rest (asked_by f t time q)) time q).told a).events) (until_early f t time q)
+    ap (λ p. (turn_of f t time p).until.early ++ ((turn_of f (at_rest (until_answer f t time p)) time p).told a).events) e ∙ ap (λ es. es ++ ((turn_of f (at_rest (until_answer f t time q)) time q).told a).events) (until_early f t time q)
 
 -- what each may tell, by the operation, the answer, and the ports once the timers were tried
 pub entry_tells : (r : Router) (e : Entry) → IsStep router_steps r e → AllByRecursion (TellsAt r.facts (timed r.state e.time).ports e.op e.answer) e.events.items
@@ -555,5 +555,5 @@ entry_tells r e step =
     let q : Plan = plan_of f t e.time in
     let Here : OpShown → Event → Type 0 = λ o. TellsAt f t.ports o e.answer in
     let first = timed_tells (Here (turn_of f t e.time q).asks) (λ reason. tt) e.time r.state.ports in
-    let all = AllByRecursion-append (Here (turn_of f t e.time q).asks) (ports_timed e.time r.state.ports).events ((turn_of f (at_rest (asked_by f t e.time q)) e.time q).told e.answer).events first (plan_tells q f t e.time e.answer step.fits) in
+    let all = AllByRecursion-append (Here (turn_of f t e.time q).asks) (ports_timed e.time r.state.ports).events ((turn_of f (at_rest (until_answer f t e.time q)) e.time q).told e.answer).events first (plan_tells q f t e.time e.answer step.fits) in
     subst (λ o. AllByRecursion (Here o) e.events.items) (sym step.op) (subst (AllByRecursion (Here (asks_at f r.state e.time))) (sym (step.events ∙ events_are f r.state e.time e.answer q refl)) all)

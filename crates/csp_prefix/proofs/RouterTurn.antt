@@ -47,7 +47,7 @@ use Rattle.csp_stack.specs.Router.{Facts, Leaving, State, at_rest, router}
 use Rattle.csp_stack.specs.Rules.{Arrival, addressed, arrival, heard, made_on, packet_in, sent}
 use Rattle.csp_stack.specs.Sources.{circle, has_work, place_with_work, source_at}
 use Rattle.csp_stack.specs.Told.{Told, kept}
-use Rattle.csp_stack.specs.Turn.{asked_at, asked_by, asks_at, brought, delivering, giving, jobs_by, kept_back, no_room, plan_by, plan_for, plan_of, pushing, replying, timed, told_at, turn_of, work_at, work_found}
+use Rattle.csp_stack.specs.Turn.{asked_at, until_answer, asks_at, brought, delivering, giving, job_due, kept_back, no_room, first_rule, plan_for, plan_of, pushing, replying, timed, told_at, turn_of, work_at, work_found}
 use Rattle.csp_stack.specs.declared.plan.Plan.{Plan}
 use Rattle.csp_stack.specs.declared.plan.Plan.TheVariants as plan
 use Rattle.csp_stack.specs.declared.sources.Source.TheVariants as source
@@ -137,7 +137,7 @@ freed_entry seat h =
 
 module _ (g : Aim) (f : Facts) (whole : Past) (k : IsAim g f whole) where
   abbrev after_told : State → ℕ → Plan → AnswerShown → Told
-  after_told s time p a = (turn_of f (at_rest (asked_by f s time p)) time p).told a
+  after_told s time p a = (turn_of f (at_rest (until_answer f s time p)) time p).told a
 
   abbrev Turns : Past → State → ℕ → Plan → AnswerShown → Type 0
   Turns h s time p a = Fits (turn_of f s time p).asks a → ComesSo (turn_of f s time p).asks a → HearsSo g (turn_of f s time p).asks a → IsPart (past_after (turn_of f s time p).asks a (after_told s time p a).events h) whole → AllByRecursion g.fresh (after_told s time p a).events
@@ -164,7 +164,7 @@ module _ (g : Aim) (f : Facts) (whole : Past) (k : IsAim g f whole) where
   told_giving_same (Some b) s h x a q w = unmoved x a h s.ports s.out (q []) w
 
   turn_give : (h : Past) (s : State) (time : ℕ) (a : AnswerShown) → Stands g f h s.ports s.out → Turns h s time plan.Give a
-  turn_give h s time a w = λ fits comes hears part fresh. (told_giving_same (buffer_in a) (at_rest (asked_by f s time plan.Give)) h (giving s.trash) a (quiet_giving s.trash a) w, pushed_giving s.trash a)
+  turn_give h s time a w = λ fits comes hears part fresh. (told_giving_same (buffer_in a) (at_rest (until_answer f s time plan.Give)) h (giving s.trash) a (quiet_giving s.trash a) w, pushed_giving s.trash a)
 
   -- ---- a packet that is to go out
   no_out : (h : Past) (p : PlainPorts) (o : Option Leaving) → Stands g f h p o → Stands g f h p None
@@ -214,7 +214,7 @@ module _ (g : Aim) (f : Facts) (whole : Past) (k : IsAim g f whole) where
       (after_told s time (plan.Push o.queue (length o.buffer.payload)) a).state.out × PushedSo g (op.Push o.queue (item.Packet o.mark o.buffer)) a
   sending_so o h s time answer.Pushed w fits = push_so o.queue o.mark o.buffer h s.ports w
   sending_so o h s time (answer.Full i) w fits =
-      (back_so o.queue (item.Packet o.mark o.buffer) i (packet_in (Some i)) h (was_full (at_rest (asked_by f s time (plan.Push o.queue (length o.buffer.payload)))) o.queue) (no_out h s.ports _ w), pushed_full o.queue (item.Packet o.mark o.buffer) i)
+      (back_so o.queue (item.Packet o.mark o.buffer) i (packet_in (Some i)) h (was_full (at_rest (until_answer f s time (plan.Push o.queue (length o.buffer.payload)))) o.queue) (no_out h s.ports _ w), pushed_full o.queue (item.Packet o.mark o.buffer) i)
   sending_so o h s time a w fits = absurd fits
 
   turn_push : (o : Leaving) (h : Past) (s : State) (time : ℕ) (a : AnswerShown) → s.out ≡ Some o → Stands g f h s.ports s.out → Turns h s time (plan.Push o.queue (length o.buffer.payload)) a
@@ -227,9 +227,9 @@ module _ (g : Aim) (f : Facts) (whole : Past) (k : IsAim g f whole) where
   -- ---- a packet of the inbox
   turn_hear : (h : Past) (s : State) (time : ℕ) (a : AnswerShown) → Stands g f h s.ports s.out → Turns h s time plan.Hear a
   turn_hear h s time (answer.Popped (item.Packet mark b)) w = λ fits comes hears part fresh.
-      let t = heard f (came_in (at_rest (asked_by f s time plan.Hear)) mark b) time (arrival mark b) in (
+      let t = heard f (came_in (at_rest (until_answer f s time plan.Hear)) mark b) time (arrival mark b) in (
         quietly (op.Pop queue.Inbox) (answer.Popped (item.Packet mark b)) h t (record { free = λ a. refl; sent = λ a. refl; down = λ a. refl })
-            (stands_heard g f whole k h (came_in (at_rest (asked_by f s time plan.Hear)) mark b) time mark b hears w) fresh,
+            (stands_heard g f whole k h (came_in (at_rest (until_answer f s time plan.Hear)) mark b) time mark b hears w) fresh,
         tt,
       )
   turn_hear h s time (answer.Popped (item.Frame frame)) w = λ fits comes hears part fresh.
@@ -242,7 +242,7 @@ module _ (g : Aim) (f : Facts) (whole : Past) (k : IsAim g f whole) where
   -- ---- an item of an application
   turn_serve : (app : ℕ) (h : Past) (s : State) (time : ℕ) (a : AnswerShown) → app < f.apps → stalled_at s.ports app ≡ None → s.out ≡ None → Stands g f h s.ports s.out → Turns h s time (plan.Serve app) a
   turn_serve app h s time (answer.Popped i) few free empty w = λ fits comes hears part fresh.
-      (stands_served g f whole k i h (at_rest (asked_by f s time (plan.Serve app))) app time (subst (λ n. app < n) (sym w.apps) few) comes.0 comes.1 hears free empty w fresh, tt)
+      (stands_served g f whole k i h (at_rest (until_answer f s time (plan.Serve app))) app time (subst (λ n. app < n) (sym w.apps) few) comes.0 comes.1 hears free empty w fresh, tt)
   turn_serve app h s time answer.Empty few free empty w = λ fits comes hears part fresh.
       (unmoved (op.Pop (queue.Up app)) answer.Empty h s.ports s.out (record { free = λ a. refl; sent = λ a. refl; down = λ a. refl }) w, tt)
   turn_serve app h s time a few free empty w = λ fits comes hears part fresh. absurd fits
@@ -286,7 +286,7 @@ module _ (g : Aim) (f : Facts) (whole : Past) (k : IsAim g f whole) where
       subst (λ es. Stands g f (past_after (op.Push (queue.Down o.app) (item.Note o.note)) answer.Pushed es h) c.ports s.out) (sym done.quiet)
       (subst (λ x. Stands g f (past_after (op.Push (queue.Down o.app) (item.Note o.note)) answer.Pushed [] h) c.ports x) (sym empty)
       (answered_so o.note o.app c h s.ports v owed.app owed.reply done))
-  replying_so o rest h s time (answer.Full i) e empty w fits = back_so (queue.Down o.app) (item.Note o.note) i (packet_in (Some i)) h (at_rest (asked_by f s time (plan.Reply o.app))) w
+  replying_so o rest h s time (answer.Full i) e empty w fits = back_so (queue.Down o.app) (item.Note o.note) i (packet_in (Some i)) h (at_rest (until_answer f s time (plan.Reply o.app))) w
   replying_so o rest h s time a e empty w fits = absurd fits
 
   pushed_replying : (owed : List Owed) (a : AnswerShown) → PushedSo g (replying owed) a
@@ -314,7 +314,7 @@ module _ (g : Aim) (f : Facts) (whole : Past) (k : IsAim g f whole) where
         tt,
       )
   turn_tell seat h s time (answer.Full i) w = λ fits comes hears part fresh.
-      (back_so (queue.Down seat.app) (item.Note (note.Down seat.slot)) i (packet_in (Some i)) h (at_rest (asked_by f s time (plan.Tell seat))) (turned_stands seat h s.ports s.out w), tt)
+      (back_so (queue.Down seat.app) (item.Note (note.Down seat.slot)) i (packet_in (Some i)) h (at_rest (until_answer f s time (plan.Tell seat))) (turned_stands seat h s.ports s.out w), tt)
   turn_tell seat h s time a w = λ fits comes hears part fresh. absurd fits
 
   -- ---- a packet that is delivered
@@ -332,7 +332,7 @@ module _ (g : Aim) (f : Facts) (whole : Past) (k : IsAim g f whole) where
   delivering_so seat b h s time (answer.Full i) few low e empty w fits =
       let v = turned_stands seat h s.ports s.out w in
       let q : PlainPorts = turned seat s.ports in
-      let t : State = at_rest (asked_by f s time (plan.Deliver seat)) in
+      let t : State = at_rest (until_answer f s time (plan.Deliver seat)) in
       subst (λ j. Stands g f (past_after (op.Push (queue.Down seat.app) (item.Packet seat.slot b.picture)) (answer.Full j) (kept_back t seat (packet_in (Some j))).events h) (kept_back t seat (packet_in (Some j))).state.ports (kept_back t seat (packet_in (Some j))).state.out) (sym fits)
       (unmoved (op.Push (queue.Down seat.app) (item.Packet seat.slot b.picture)) (answer.Full (item.Packet seat.slot b.picture)) h (kept_again seat b.picture (without_packet seat q)) s.out (quiet_full (queue.Down seat.app) (item.Packet seat.slot b.picture) (item.Packet seat.slot b.picture) [])
       (record { numbering = v.numbering; books = v.books; good = k.ports.keeps v.numbering h.ends v.books q seat b few low e v.good; tells = v.tells; apps = v.apps; out = v.out }))
@@ -360,7 +360,7 @@ module _ (g : Aim) (f : Facts) (whole : Past) (k : IsAim g f whole) where
   turn_make seat j h s time (answer.Taken b) so few low e empty w = λ fits comes hears part fresh.
       let v = turned_stands seat h s.ports s.out w in
       let q : PlainPorts = turned seat s.ports in
-      let t : State = at_rest (asked_by f s time (plan.Make seat j)) in
+      let t : State = at_rest (until_answer f s time (plan.Make seat j)) in
       let known = k.ports.owes v.numbering h.ends v.books q seat time j few low e v.good in
       let x : Content = addressed f known.0.connection (terms_at q seat) (made_in j time seat b q) in
       let good : g.good x = k.makes h v.numbering v.books q seat time j b known.0.connection (part_before op.Take (answer.Taken b) (after_told s time (plan.Make seat j) (answer.Taken b)).events h whole part) v.tells (v.good.counted seat few low) known.0.there known.1 so e in
@@ -380,7 +380,7 @@ module _ (g : Aim) (f : Facts) (whole : Past) (k : IsAim g f whole) where
   turn_task task.Deliver seat h s time a so is empty w = turn_deliver (delivery (machine_at s.ports seat)) seat h s time a is.app_there is.slot_there refl (deliver_job time s.ports seat is.is_task) empty w
   turn_task (task.Make j) seat h s time a so is empty w = turn_make seat j h s time a (so seat j (subst (λ n. seat.app < n) w.apps is.app_there) is.slot_there (make_job time s.ports seat j is.is_task)) is.app_there is.slot_there (make_job time s.ports seat j is.is_task) empty w
 
-  turn_jobs : (owed : List Owed) (o : Option (Seat × Task)) (h : Past) (s : State) (time : ℕ) (a : AnswerShown) → FoundSo time s.ports → s.ports.owed ≡ owed → next_task time s.ports ≡ o → s.out ≡ None → Stands g f h s.ports s.out → Turns h s time (jobs_by owed o) a
+  turn_jobs : (owed : List Owed) (o : Option (Seat × Task)) (h : Past) (s : State) (time : ℕ) (a : AnswerShown) → FoundSo time s.ports → s.ports.owed ≡ owed → next_task time s.ports ≡ o → s.out ≡ None → Stands g f h s.ports s.out → Turns h s time (job_due owed o) a
   turn_jobs (o ∷ os) t h s time a so e q empty w = turn_reply o os h s time a e empty w
   turn_jobs [] (Some t) h s time a so e q empty w = turn_task t.1 t.0 h s time a so (task_there time s.ports t q) empty w
   turn_jobs [] None h s time a so e q empty w = turn_rest h s time a w
@@ -400,7 +400,7 @@ module _ (g : Aim) (f : Facts) (whole : Past) (k : IsAim g f whole) where
   turn_place (Some place) h s time a so e empty w =
       turn_source (place == 0) (nat_le place f.apps) place h s time a so refl refl (found_passes (λ x. has_work s time (source_at f x)) (circle f s.cursor) place e) empty w
 
-  pub turn_plan : (trash : List Content) (o : Option Leaving) (h : Past) (s : State) (time : ℕ) (a : AnswerShown) → FoundSo time s.ports → s.out ≡ o → Stands g f h s.ports s.out → Turns h s time (plan_by trash o (work_found f s time (place_with_work f s time))) a
+  pub turn_plan : (trash : List Content) (o : Option Leaving) (h : Past) (s : State) (time : ℕ) (a : AnswerShown) → FoundSo time s.ports → s.out ≡ o → Stands g f h s.ports s.out → Turns h s time (first_rule trash o (work_found f s time (place_with_work f s time))) a
   turn_plan (b ∷ bs) o h s time a so e w = turn_give h s time a w
   turn_plan [] (Some o) h s time a so e w = turn_push o h s time a e w
   turn_plan [] None h s time a so e w = turn_place (place_with_work f s time) h s time a so refl e w

@@ -122,38 +122,38 @@ module _ (p : PlainPorts) (seat : Seat) (time : ℕ) (s : State) (same : s.ports
   told_delivering_light (Some b) a e light = absurd light
 
 told_light : (p : Plan) (f : Facts) (s : State) (time : ℕ) (a : AnswerShown) → AreFacts f → IsLightState s → IsLightAnswer (turn.turn_of f s time p).asks a
-    → IsTold ((turn.turn_of f (at_rest (turn.asked_by f s time p)) time p).told a)
+    → IsTold ((turn.turn_of f (at_rest (turn.until_answer f s time p)) time p).told a)
 told_light plan.Rest f s time a are h light = h
 told_light plan.Give f s time a are h light =
-    let t : State = at_rest (turn.asked_by f s time plan.Give) in
+    let t : State = at_rest (turn.until_answer f s time plan.Give) in
     let less : IsLightState t = record { ports = h.ports; trash = All-drop IsLight 1 s.trash h.trash; out = h.out; stats = h.stats } in
     brought_light IsLight t (kept t) (buffer_in a) (buffer_came (turn.giving s.trash) a light) less
     (λ b is. record { ports = h.ports; trash = All-cons IsLight b t.trash is less.trash; out = h.out; stats = h.stats })
 told_light (plan.Push q bytes) f s time a are h light =
-    let t : State = at_rest (turn.asked_by f s time (plan.Push q bytes)) in
+    let t : State = at_rest (turn.until_answer f s time (plan.Push q bytes)) in
     let less : IsLightState t = record { ports = h.ports; trash = h.trash; out = tt; stats = h.stats } in
     pushed_light (is_pushed a) _ _ (went_out_light t q bytes less) (back_light (was_full t q) (packet_in (item_in a)) (packet_came (item_in a) (any_came (turn.pushing s.out) a light)) (was_full_light t q less))
 told_light plan.Hear f s time a are h light =
-    let t : State = at_rest (turn.asked_by f s time plan.Hear) in
+    let t : State = at_rest (turn.until_answer f s time plan.Hear) in
     brought_light (λ p. IsLight p.buffer) t (λ p. heard f (came_in t p.mark p.buffer) time p) (packet_in (item_in a)) (packet_came (item_in a) (any_came (op.Pop queue.Inbox) a light)) h
     (λ p is. heard_light f t time p are is h)
 told_light (plan.Serve k) f s time a are h light =
-    let t : State = at_rest (turn.asked_by f s time (plan.Serve k)) in
+    let t : State = at_rest (turn.until_answer f s time (plan.Serve k)) in
     brought_light (λ i. item_bytes i ≤ 522) t (served f t time k) (item_in a) (item_came (op.Pop (queue.Up k)) a light) h (λ i short. served_light f t time k i are short h)
 told_light (plan.Reply k) f s time a are h light =
-    let t : State = at_rest (turn.asked_by f s time (plan.Reply k)) in
+    let t : State = at_rest (turn.until_answer f s time (plan.Reply k)) in
     pushed_light (is_pushed a) _ _ (ported_light t (answered t.ports) (answered_light t.ports h.ports) h) (back_light t (packet_in (item_in a)) (packet_came (item_in a) (any_came (turn.replying s.ports.owed) a light)) h)
 told_light (plan.Tell seat) f s time a are h light =
-    let t : State = at_rest (turn.asked_by f s time (plan.Tell seat)) in
+    let t : State = at_rest (turn.until_answer f s time (plan.Tell seat)) in
     let told : IsLightState (with_ports t (told_down seat t.ports)) = record { ports = told_down_light seat t.ports h.ports; trash = h.trash; out = h.out; stats = h.stats } in
     pushed_light (is_pushed a) _ _ told (back_light t (packet_in (item_in a)) (packet_came (item_in a) (any_came (turn.turn_of f s time (plan.Tell seat)).asks a light)) h)
 told_light (plan.Deliver seat) f s time a are h light =
     let p = turned seat s.ports in
-    told_delivering_light p seat time (at_rest (turn.asked_by f s time (plan.Deliver seat))) refl h.ports
+    told_delivering_light p seat time (at_rest (turn.until_answer f s time (plan.Deliver seat))) refl h.ports
     (record { ports = without_packet_light seat p h.ports; trash = h.trash; out = h.out; stats = h.stats })
     (delivery (machine_at s.ports seat)) a refl light
 told_light (plan.Make seat j) f s time a are h light =
-    let t : State = at_rest (turn.asked_by f s time (plan.Make seat j)) in
+    let t : State = at_rest (turn.until_answer f s time (plan.Make seat j)) in
     brought_light IsLight t (made_on (slot_at t.ports.conns seat) (seat, j) (router f t) time) (buffer_in a) (buffer_came op.Take a light) h (λ b is. made_on_light (slot_at t.ports.conns seat) j f t seat time b is h)
 
 pub router_light : (r : Router) (time : ℕ) (a : AnswerShown) → IsLightRouter r → IsLightAnswer (asks_of r time) a → IsLightRouter (told_of (asked_of r time) time a)

@@ -171,7 +171,7 @@ reply_checked f h e =
 
 -- ---- sending
 
-sent_by_light : (own : Bool) (row : Option Row) (s : State) (b : Content) → IsLight b → IsLightState s → IsTold (rules.sent_by own row s b)
+sent_by_light : (own : Bool) (row : Option Row) (s : State) (b : Content) → IsLight b → IsLightState s → IsTold (rules.sent_where own row s b)
 sent_by_light true row s b light h = leaves s (rules.to_itself b) light h
 sent_by_light false None s b light h = trashed s b light h
 sent_by_light false (Some row) s b light h = leaves s (rules.by_row row b) light h
@@ -260,7 +260,7 @@ asked_with_narrow : (r : Result Options OptionError) (h : RdpHead) (tag : Option
 asked_with_narrow (Err e) h tag narrow = tt
 asked_with_narrow (Ok o) h tag narrow = narrow
 
-asked_by_narrow : (syn other : Bool) (bytes : List ℕ) (h : RdpHead) (tag : Option Tag) → IfOk (rules.asked_by syn other bytes h tag) (λ i. i.options.window ≤ 20)
+asked_by_narrow : (syn other : Bool) (bytes : List ℕ) (h : RdpHead) (tag : Option Tag) → IfOk (rules.syn_alone syn other bytes h tag) (λ i. i.options.window ≤ 20)
 asked_by_narrow false other bytes h tag = tt
 asked_by_narrow true true bytes h tag = tt
 asked_by_narrow true false bytes h tag = asked_with_narrow (judged bytes) h tag (judged_narrow bytes)

@@ -16,7 +16,7 @@ use Rattle.csp_stack.specs.Party.{rules_of}
 use Rattle.csp_stack.specs.Router.{Facts, Leaving, State, StateAt}
 use Rattle.csp_stack.specs.Sources.{place_past, place_with_work, source_at}
 use Rattle.csp_stack.specs.Told.{Told, after_all, unchanged}
-use Rattle.csp_stack.specs.Turn.{asked_at, asked_by, asks_at, plan_by, plan_of, told_at, turn_of, work_at, work_found}
+use Rattle.csp_stack.specs.Turn.{asked_at, until_answer, asks_at, first_rule, plan_of, told_at, turn_of, work_at, work_found}
 use Rattle.csp_stack.specs.declared.plan.Plan.{Plan}
 use Rattle.csp_stack.specs.declared.plan.Plan.TheVariants as plan
 use Rattle.csp_stack.specs.declared.sources.Source.{Source}
@@ -36,7 +36,7 @@ idle_from s time cursor h = let clear = h.clear in record {
 }
 
 -- its turn is the work that was found
-plan_clear : (trash : List Content) (out : Option Leaving) (work : Plan) → trash ≡ [] → out ≡ None → plan_by trash out work ≡ work
+plan_clear : (trash : List Content) (out : Option Leaving) (work : Plan) → trash ≡ [] → out ≡ None → first_rule trash out work ≡ work
 plan_clear trash out work t o = rw t (rw o refl)
 
 plan_is : (f : Facts) (s : State) (time : ℕ) → IsIdle s time → plan_of f s time ≡ work_found f s time (place_with_work f s time)
@@ -46,9 +46,9 @@ plan_is f s time h = plan_clear s.trash s.out _ h.clear.trash h.clear.out
 asks_is : (f : Facts) (s : State) (time : ℕ) (d : Plan) (q : QueueId) → IsIdle s time → plan_of f s time ≡ d → (turn_of f s time d).asks ≡ op.Pop q → asks_at f s time ≡ op.Pop q
 asks_is f s time d q h e pops = ap (λ (x : State). (turn_of f x time (plan_of f x time)).asks) h.still ∙ ap (λ (p : Plan). (turn_of f s time p).asks) e ∙ pops
 
-asked_is : (f : Facts) (s : State) (time : ℕ) (d : Plan) (past : ℕ) → IsIdle s time → plan_of f s time ≡ d → asked_by f s time d ≡ record s { cursor = past; doing = d } →
+asked_is : (f : Facts) (s : State) (time : ℕ) (d : Plan) (past : ℕ) → IsIdle s time → plan_of f s time ≡ d → until_answer f s time d ≡ record s { cursor = past; doing = d } →
     asked_at f s time ≡ record s { cursor = past; doing = d }
-asked_is f s time d past h e asked = ap (λ (x : State). asked_by f x time (plan_of f x time)) h.still ∙ ap (asked_by f s time) e ∙ asked
+asked_is f s time d past h e asked = ap (λ (x : State). until_answer f x time (plan_of f x time)) h.still ∙ ap (until_answer f s time) e ∙ asked
 
 ends : (s : State) (time past : ℕ) → IsIdle s time → after_all s.early (unchanged (record s { cursor = past; early = []; doing = plan.Rest })) ≡ unchanged (at_cursor s past)
 ends s time past h =
@@ -60,7 +60,7 @@ ends s time past h =
     = ap (λ (d : Plan). unchanged (record s { cursor = past; doing = d })) (sym h.rests) in
     reported ∙ early ∙ doing
 
-told_is : (f : Facts) (s : State) (time : ℕ) (d : Plan) (past : ℕ) → IsIdle s time → plan_of f s time ≡ d → asked_by f s time d ≡ record s { cursor = past; doing = d } →
+told_is : (f : Facts) (s : State) (time : ℕ) (d : Plan) (past : ℕ) → IsIdle s time → plan_of f s time ≡ d → until_answer f s time d ≡ record s { cursor = past; doing = d } →
     ((t : State) → (turn_of f t time d).told answer.Empty ≡ unchanged t) → told_at f (asked_at f s time) time answer.Empty ≡ unchanged (at_cursor s past)
 told_is f s time d past h e asked misses =
     let was : told_at f (asked_at f s time) time answer.Empty ≡ told_at f (record s { cursor = past; doing = d }) time answer.Empty
@@ -70,7 +70,7 @@ told_is f s time d past h e asked misses =
     was ∙ nothing ∙ ends s time past h
 
 passes_by : (f : Facts) (s : StateAt) (time cursor : ℕ) (d : Plan) (q : QueueId) (past : ℕ) → IsIdle (at_cursor s.state cursor) time → plan_of f (at_cursor s.state cursor) time ≡ d →
-    (turn_of f (at_cursor s.state cursor) time d).asks ≡ op.Pop q → asked_by f (at_cursor s.state cursor) time d ≡ record s.state { cursor = past; doing = d } →
+    (turn_of f (at_cursor s.state cursor) time d).asks ≡ op.Pop q → until_answer f (at_cursor s.state cursor) time d ≡ record s.state { cursor = past; doing = d } →
     ((t : State) → (turn_of f t time d).told answer.Empty ≡ unchanged t) → IsSome (rules_of f q) → Passes f s time cursor (q, past)
 passes_by f s time cursor d q past h e pops asked misses used =
     let told = told_is f (at_cursor s.state cursor) time d past h e asked misses in

@@ -20,7 +20,7 @@ use Rattle.csp_ports.specs.declared.held.TheConstants.{MAX_HELD}
 use Rattle.csp_stack.specs.Comes.{IsServing}
 use Rattle.csp_stack.specs.Keeps.{Asks, Keeps}
 use Rattle.csp_stack.specs.Party.{HasPlace, IsClear, IsDelivering, IsSendable, IsSound, IsTimed, IsWaiting, kind_of_plan}
-use Rattle.csp_stack.specs.Router.{Facts, Leaving, State, StateAt, at_rest, drained, drained_by, holds, out_buffers}
+use Rattle.csp_stack.specs.Router.{Facts, Leaving, State, StateAt, at_rest, drained, without_first, holds, out_buffers}
 use Rattle.csp_stack.specs.declared.plan.Plan.{Plan}
 use Rattle.csp_stack.specs.declared.plan.Plan.TheVariants as plan
 use Rattle.csp_stack.specs.declared.state.TheConstants.{TRASH_ROOM}
@@ -148,8 +148,8 @@ push_asks f s time x t o h = record {
 
 -- a router of which a buffer is taken out is sound
 drained_by_sound : (f : Facts) (s : State) (trash : List Content) (out : Option Leaving) (kept : List Content) → s.out ≡ out → IsSound f s →
-    length (drained_by trash out kept s).trash + length (held (drained_by trash out kept s).ports) ≤ TRASH_ROOM → (drained_by trash out kept s).ports.conns.apps ≡ f.apps →
-    IsSound f (drained_by trash out kept s)
+    length (without_first trash out kept s).trash + length (held (without_first trash out kept s).ports) ≤ TRASH_ROOM → (without_first trash out kept s).ports.conns.apps ≡ f.apps →
+    IsSound f (without_first trash out kept s)
 drained_by_sound f s (b ∷ bs) out kept is h room apps = record { room = room; place = refl; sendable = h.sendable; within = h.within; apps = apps; low = h.low; high = h.high }
 drained_by_sound f s [] (Some o) kept is h room apps = record { room = room; place = refl; sendable = tt; within = h.within; apps = apps; low = h.low; high = h.high }
 drained_by_sound f s [] None (k ∷ ks) is h room apps = record { room = room; place = refl; sendable = h.sendable; within = h.within; apps = apps; low = h.low; high = h.high }

@@ -90,12 +90,12 @@ at_rest s = record s { early = []; doing = Rest }
 
 -- the state without the first of its buffers, as they are taken out at the end of a run: the trash, the packet that is to go out, the ports.
 -- Where it holds none it stays
-abbrev pub drained_by : List Content → Option Leaving → List Content → State → State
-drained_by (_ ∷ bs) out kept s = at_rest (record s { trash = bs })
-drained_by [] (Some o) kept s = at_rest (record s { out = None })
-drained_by [] None (_ ∷ _) s = at_rest (record s { ports = emptied s.ports })
-drained_by [] None [] s = s
+abbrev pub without_first : List Content → Option Leaving → List Content → State → State
+without_first (_ ∷ bs) out kept s = at_rest (record s { trash = bs })
+without_first [] (Some o) kept s = at_rest (record s { out = None })
+without_first [] None (_ ∷ _) s = at_rest (record s { ports = emptied s.ports })
+without_first [] None [] s = s
 
 -- the router's state without the first buffer that it holds, at the end of a run
 abbrev pub drained : State → State
-drained s = drained_by s.trash s.out (held s.ports) s
+drained s = without_first s.trash s.out (held s.ports) s

@@ -62,14 +62,14 @@ abbrev pub to_itself : Content → Leaving
 to_itself b = record { queue = queue.Inbox; mark = UNMARKED; buffer = b }
 
 -- a packet of the node goes to its inbox where the node's own address is its destination; else by its row, and without one it is NoRoute
-abbrev pub sent_by : (is_own : Bool) → Option Row → State → Content → Told
-sent_by true row s b = leaving s (to_itself b)
-sent_by false None s b = discarded s why.NoRoute b
-sent_by false (Some row) s b = leaving s (by_row row b)
+abbrev pub sent_where : (is_own : Bool) → Option Row → State → Content → Told
+sent_where true row s b = leaving s (to_itself b)
+sent_where false None s b = discarded s why.NoRoute b
+sent_where false (Some row) s b = leaving s (by_row row b)
 
 -- a packet of the node goes out: to its own inbox, or by the row of the table for its destination, or it is NoRoute
 abbrev pub sent : Facts → State → Content → Told
-sent f s b = let to = (header_at b.header).dst in sent_by (to == f.addr) (route_of s.routes to) s b
+sent f s b = let to = (header_at b.header).dst in sent_where (to == f.addr) (route_of s.routes to) s b
 
 -- ---- from the inbox
 
@@ -199,15 +199,15 @@ asked_with (Err _) h tag = Err why.Malformed
 asked_with (Ok options) h tag = Ok (record { head = h; tag = tag; options = options })
 
 -- what a packet with the flag RDP asks for: only one with SYN, and neither ACK nor RST, asks for a connection
-abbrev pub asked_by : (is_syn other : Bool) → List ℕ → RdpHead → Option Tag → Result Invitation Discard
-asked_by false other options h tag = Err why.NoConn
-asked_by true true options h tag = Err why.NoConn
-asked_by true false options h tag = asked_with (judged options) h tag
+abbrev pub syn_alone : (is_syn other : Bool) → List ℕ → RdpHead → Option Tag → Result Invitation Discard
+syn_alone false other options h tag = Err why.NoConn
+syn_alone true true options h tag = Err why.NoConn
+syn_alone true false options h tag = asked_with (judged options) h tag
 
 -- the same of a payload that was read, or could not be
 abbrev pub invitation_in : Option (List ℕ × RdpHead) → Option Tag → Result Invitation Discard
 invitation_in None tag = Err why.Malformed
-invitation_in (Some read) tag = asked_by (has_flag read.1 SYN) (has_flag read.1 ACK || has_flag read.1 RST) read.0 read.1 tag
+invitation_in (Some read) tag = syn_alone (has_flag read.1 SYN) (has_flag read.1 ACK || has_flag read.1 RST) read.0 read.1 tag
 
 -- what a packet with the flag RDP asks for at a bound port: a connection, with its options, or nothing, and why
 abbrev pub invitation_of : Content → Result Invitation Discard

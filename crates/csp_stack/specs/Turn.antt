@@ -42,16 +42,16 @@ plan_for seat task.Deliver = plan.Deliver seat
 plan_for seat (task.Make j) = plan.Make seat j
 
 -- the jobs: the answer that came to be owed first is pushed; where none is owed the next connection with a task comes to it
-abbrev pub jobs_by : List Owed → Option (Seat × Task) → Plan
-jobs_by (o ∷ _) t = plan.Reply o.app
-jobs_by [] (Some t) = plan_for t.0 t.1
-jobs_by [] None = plan.Rest
+abbrev pub job_due : List Owed → Option (Seat × Task) → Plan
+job_due (o ∷ _) t = plan.Reply o.app
+job_due [] (Some t) = plan_for t.0 t.1
+job_due [] None = plan.Rest
 
 -- the work at a source
 abbrev pub work_at : State → ℕ → Source → Plan
 work_at s time source.Inbox = plan.Hear
 work_at s time (source.App k) = plan.Serve k
-work_at s time source.Jobs = jobs_by s.ports.owed (next_task time s.ports)
+work_at s time source.Jobs = job_due s.ports.owed (next_task time s.ports)
 
 -- the work at the place that was found, if one was
 abbrev pub work_found : Facts → State → ℕ → Option ℕ → Plan
@@ -59,14 +59,14 @@ work_found f s time None = plan.Rest
 work_found f s time (Some k) = work_at s time (source_at f k)
 
 -- the first of these that fits: there is trash; a packet is to go out; else the first source with work
-abbrev pub plan_by : List Content → Option Leaving → Plan → Plan
-plan_by (_ ∷ _) out work = plan.Give
-plan_by [] (Some o) work = plan.Push o.queue (length o.buffer.payload)
-plan_by [] None work = work
+abbrev pub first_rule : List Content → Option Leaving → Plan → Plan
+first_rule (_ ∷ _) out work = plan.Give
+first_rule [] (Some o) work = plan.Push o.queue (length o.buffer.payload)
+first_rule [] None work = work
 
 -- what the next turn is: trash, then what is to go out, then the first work of the circle
 abbrev pub plan_of : Facts → State → ℕ → Plan
-plan_of f s time = plan_by s.trash s.out (work_found f s time (place_with_work f s time))
+plan_of f s time = first_rule s.trash s.out (work_found f s time (place_with_work f s time))
 
 -- the timers, which are tried at the start of each turn, before its plan is made: what they let go joins the trash, and what they
 -- report is reported at the turn's end
@@ -178,8 +178,8 @@ turn_of f s time (plan.Make seat j) = takes (at_task f s seat) (brought s (made_
 -- ---- a whole turn
 
 -- the state from the question of a plan to its answer
-abbrev pub asked_by : Facts → State → ℕ → Plan → State
-asked_by f s time p = record (turn_of f s time p).until { doing = p }
+abbrev pub until_answer : Facts → State → ℕ → Plan → State
+until_answer f s time p = record (turn_of f s time p).until { doing = p }
 
 -- what a turn asks
 abbrev pub asks_at : Facts → State → ℕ → OpShown
@@ -187,7 +187,7 @@ asks_at f s time = (turn_of f (timed s time) time (plan_of f (timed s time) time
 
 -- the state from its question until the answer
 abbrev pub asked_at : Facts → State → ℕ → State
-asked_at f s time = asked_by f (timed s time) time (plan_of f (timed s time) time)
+asked_at f s time = until_answer f (timed s time) time (plan_of f (timed s time) time)
 
 -- a turn's end: nothing is awaited any more, and what the timers reported comes first
 abbrev pub told_at : Facts → State → ℕ → AnswerShown → Told

@@ -2,7 +2,7 @@
 
 ghost use Rattle.std.specs.Prelude.{◌≡◌, ◌≤◌, ◌||◌, IfOk};
 ghost use Rattle.csp_rdp_header.specs.Head.{has_flag};
-ghost use Rattle.csp_stack.specs.Rules.{asked_by, invitation_of};
+ghost use Rattle.csp_stack.specs.Rules.{syn_alone, invitation_of};
 
 use csp_base::Tag;
 use csp_buffer::Buffer;
@@ -27,7 +27,7 @@ pub fn read_invitation(buffer: &Buffer) -> Result<Invitation, Discard>
 
 /// What the packet with this head and these options asks for.
 fn read_options(bytes: &[u8], head: RdpHead, tag: Option<Tag>) -> Result<Invitation, Discard>
-    ensures value { result ≡ asked_by (has_flag head SYN) (has_flag head ACK || has_flag head RST) bytes.now head tag }
+    ensures value { result ≡ syn_alone (has_flag head SYN) (has_flag head ACK || has_flag head RST) bytes.now head tag }
     ensures low { IfOk result (λ i. 1 ≤ i.options.window) }
     ensures high { IfOk result (λ i. i.options.window ≤ MAX_WINDOW) }
 {

@@ -22,7 +22,7 @@ ghost use Rattle.csp_stack.specs.Router.{at_rest, holds};
 ghost use Rattle.csp_stack.specs.Rules.{heard, packet_in};
 ghost use Rattle.csp_stack.specs.Sources.{has_work, place_with_work, source_at};
 ghost use Rattle.csp_stack.specs.Told.{kept, ported, unchanged, with_ports};
-ghost use Rattle.csp_stack.specs.Turn.{asked_at, asked_by, asks_at, brought, jobs_by, kept_back, no_room, plan_for, plan_of, told_at, turn_of, work_found};
+ghost use Rattle.csp_stack.specs.Turn.{asked_at, until_answer, asks_at, brought, job_due, kept_back, no_room, plan_for, plan_of, told_at, turn_of, work_found};
 ghost use Rattle.csp_stack.specs.declared.state.TheConstants.{TRASH_ROOM};
 
 use crate::counting::{count_full, count_in, count_out};
@@ -59,7 +59,7 @@ fn begin_plan(facts: &Facts, state: &mut State, now: u64) -> Op
     requires sound { IsTimed facts.now state.old.state }
     ensures served { CanServe (rules_of facts.now) (shown_op result) }
     ensures op { shown_op result ≡ (turn_of facts.now state.old.state now (plan_of facts.now state.old.state now)).asks }
-    ensures state { state.new.state ≡ asked_by facts.now state.old.state now (plan_of facts.now state.old.state now) }
+    ensures state { state.new.state ≡ until_answer facts.now state.old.state now (plan_of facts.now state.old.state now) }
     ensures of_it { IsOpOf state.old.region result }
     ensures region { state.new.region ≡ state.old.region }
     ensures asks { Asks facts.now state.old.state state.new.state now (shown_op result) }
@@ -98,7 +98,7 @@ pub fn look(facts: &Facts, state: &mut State, now: u64) -> Option<QueueId>
 fn look_for_work(facts: &Facts, state: &mut State, now: u64) -> Option<QueueId>
     requires sound { IsTimed facts.now state.old.state }
     requires clear { IsClear state.old.state }
-    ensures looks { MatchOption result (state.new ≡ state.old) (λ q. ((turn_of facts.now state.old.state now (work_found facts.now state.old.state now (place_with_work facts.now state.old.state now))).asks ≡ OpShown.Pop q) × (state.new.state ≡ asked_by facts.now state.old.state now (work_found facts.now state.old.state now (place_with_work facts.now state.old.state now)))) }
+    ensures looks { MatchOption result (state.new ≡ state.old) (λ q. ((turn_of facts.now state.old.state now (work_found facts.now state.old.state now (place_with_work facts.now state.old.state now))).asks ≡ OpShown.Pop q) × (state.new.state ≡ until_answer facts.now state.old.state now (work_found facts.now state.old.state now (place_with_work facts.now state.old.state now)))) }
     ensures asks { IfSome result (λ q. Asks facts.now state.old.state state.new.state now (OpShown.Pop q)) }
     ensures served { IfSome result (λ q. CanServe (rules_of facts.now) (OpShown.Pop q)) }
     ensures region { state.new.region ≡ state.old.region }
@@ -125,7 +125,7 @@ fn begin_work(facts: &Facts, state: &mut State, now: u64) -> Op
     requires clear { IsClear state.old.state }
     ensures served { CanServe (rules_of facts.now) (shown_op result) }
     ensures op { shown_op result ≡ (turn_of facts.now state.old.state now (work_found facts.now state.old.state now (place_with_work facts.now state.old.state now))).asks }
-    ensures state { state.new.state ≡ asked_by facts.now state.old.state now (work_found facts.now state.old.state now (place_with_work facts.now state.old.state now)) }
+    ensures state { state.new.state ≡ until_answer facts.now state.old.state now (work_found facts.now state.old.state now (place_with_work facts.now state.old.state now)) }
     ensures of_it { IsOpOf state.old.region result }
     ensures region { state.new.region ≡ state.old.region }
     ensures asks { Asks facts.now state.old.state state.new.state now (shown_op result) }
@@ -152,7 +152,7 @@ fn rest(facts: &Facts, state: &mut State, _now: u64) -> Op
     requires sound { IsTimed facts.now state.old.state }
     requires clear { IsClear state.old.state }
     ensures op { result ≡ Op.Nothing }
-    ensures state { state.new ≡ record state.old { state = asked_by facts.now state.old.state _now Plan.Rest } }
+    ensures state { state.new ≡ record state.old { state = until_answer facts.now state.old.state _now Plan.Rest } }
     ensures asks { Asks facts.now state.old.state state.new.state _now (shown_op result) }
 {
     state.doing = Plan::Rest;
@@ -166,8 +166,8 @@ fn begin_job(facts: &Facts, state: &mut State, now: u64) -> Op
     requires sound { IsTimed facts.now state.old.state }
     requires clear { IsClear state.old.state }
     ensures served { CanServe (rules_of facts.now) (shown_op result) }
-    ensures op { shown_op result ≡ (turn_of facts.now state.old.state now (jobs_by state.old.state.ports.owed (next_task now state.old.state.ports))).asks }
-    ensures state { state.new.state ≡ asked_by facts.now state.old.state now (jobs_by state.old.state.ports.owed (next_task now state.old.state.ports)) }
+    ensures op { shown_op result ≡ (turn_of facts.now state.old.state now (job_due state.old.state.ports.owed (next_task now state.old.state.ports))).asks }
+    ensures state { state.new.state ≡ until_answer facts.now state.old.state now (job_due state.old.state.ports.owed (next_task now state.old.state.ports)) }
     ensures of_it { IsOpOf state.old.region result }
     ensures region { state.new.region ≡ state.old.region }
     ensures asks { Asks facts.now state.old.state state.new.state now (shown_op result) }
@@ -191,7 +191,7 @@ fn begin_task(facts: &Facts, state: &mut State, seat: Seat, task: Task, now: u64
     requires owed { IsOwedBy task now seat state.old.state.ports }
     ensures served { CanServe (rules_of facts.now) (shown_op result) }
     ensures op { shown_op result ≡ (turn_of facts.now state.old.state now (plan_for seat task)).asks }
-    ensures state { state.new.state ≡ asked_by facts.now state.old.state now (plan_for seat task) }
+    ensures state { state.new.state ≡ until_answer facts.now state.old.state now (plan_for seat task) }
     ensures of_it { IsOpOf state.old.region result }
     ensures region { state.new.region ≡ state.old.region }
     ensures asks { Asks facts.now state.old.state state.new.state now (shown_op result) }
@@ -211,7 +211,7 @@ fn begin_note(facts: &Facts, state: &mut State, seat: Seat, _now: u64) -> Op
     requires there { IsThere state.old.state.ports.conns seat }
     ensures served { CanServe (rules_of facts.now) (shown_op result) }
     ensures op { shown_op result ≡ (turn_of facts.now state.old.state _now (Plan.Tell seat)).asks }
-    ensures state { state.new.state ≡ asked_by facts.now state.old.state _now (Plan.Tell seat) }
+    ensures state { state.new.state ≡ until_answer facts.now state.old.state _now (Plan.Tell seat) }
     ensures of_it { IsOpOf state.old.region result }
     ensures region { state.new.region ≡ state.old.region }
     ensures asks { Asks facts.now state.old.state state.new.state _now (shown_op result) }
@@ -232,7 +232,7 @@ fn begin_delivery(facts: &Facts, state: &mut State, seat: Seat, _now: u64) -> Op
     requires owed { IsOwedBy Task.Deliver _now seat state.old.state.ports }
     ensures served { CanServe (rules_of facts.now) (shown_op result) }
     ensures op { shown_op result ≡ (turn_of facts.now state.old.state _now (Plan.Deliver seat)).asks }
-    ensures state { state.new.state ≡ asked_by facts.now state.old.state _now (Plan.Deliver seat) }
+    ensures state { state.new.state ≡ until_answer facts.now state.old.state _now (Plan.Deliver seat) }
     ensures of_it { IsOpOf state.old.region result }
     ensures region { state.new.region ≡ state.old.region }
     ensures asks { Asks facts.now state.old.state state.new.state _now (shown_op result) }
@@ -253,7 +253,7 @@ fn begin_packet(facts: &Facts, state: &mut State, seat: Seat, job: Job, _now: u6
     requires there { IsThere state.old.state.ports.conns seat }
     requires owed { IsOwedBy (Task.Make job) _now seat state.old.state.ports }
     ensures op { result ≡ Op.Take }
-    ensures state { state.new.state ≡ asked_by facts.now state.old.state _now (Plan.Make seat job) }
+    ensures state { state.new.state ≡ until_answer facts.now state.old.state _now (Plan.Make seat job) }
     ensures region { state.new.region ≡ state.old.region }
     ensures asks { Asks facts.now state.old.state state.new.state _now (shown_op result) }
 {
