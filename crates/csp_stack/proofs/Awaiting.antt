@@ -36,12 +36,12 @@ answer_awaited f (plan.Serve k) (answer.Popped i) h = (refl, from_up f k i _ ref
 answer_awaited f (plan.Serve k) answer.Empty h = (refl, tt)
 answer_awaited f (plan.Reply k) answer.Pushed h = refl
 answer_awaited f (plan.Reply k) (answer.Full i) h = refl
-answer_awaited f (plan.Tell k slot) answer.Pushed h = refl
-answer_awaited f (plan.Tell k slot) (answer.Full i) h = refl
-answer_awaited f (plan.Deliver k slot) answer.Pushed h = refl
-answer_awaited f (plan.Deliver k slot) (answer.Full i) h = refl
-answer_awaited f (plan.Make k slot j) (answer.Taken b) h = (refl, h)
-answer_awaited f (plan.Make k slot j) answer.NoBuffer h = (refl, tt)
+answer_awaited f (plan.Tell seat) answer.Pushed h = refl
+answer_awaited f (plan.Tell seat) (answer.Full i) h = refl
+answer_awaited f (plan.Deliver seat) answer.Pushed h = refl
+answer_awaited f (plan.Deliver seat) (answer.Full i) h = refl
+answer_awaited f (plan.Make seat j) (answer.Taken b) h = (refl, h)
+answer_awaited f (plan.Make seat j) answer.NoBuffer h = (refl, tt)
 answer_awaited f d a h = absurd h
 
 -- what is an answer of a router as it is seen is one of it as it is

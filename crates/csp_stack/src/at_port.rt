@@ -22,6 +22,7 @@ use crate::readings::{are_flags_reliable, is_packet_lacking, is_packet_reliable}
 use crate::services::judge_service;
 use crate::state::State;
 use csp_base::{SLOTS, Seat};
+use csp_conn::Connection;
 use csp_deck::{Discard, Event, Events};
 
 /// The first of the rules from the fourth on that decides.
@@ -96,7 +97,12 @@ fn judge_connection(
     ensures keeps { MatchOption result (Keeps (length facts.now.ifaces) state.old.state state.new.state (packet.buffer.picture.number ∷ [])) (λ _. ⊤) }
 {
     let header = packet.header;
-    let Some(seat) = state.ports.find(packet.connection()) else {
+    let connection = Connection {
+        peer: header.src,
+        peer_port: header.sport,
+        own_port: header.dport,
+    };
+    let Some(seat) = state.ports.find(connection) else {
         return Some(packet);
     };
     if is_apart(state, seat, &packet) {
