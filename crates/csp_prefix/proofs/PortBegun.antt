@@ -33,7 +33,7 @@ use Rattle.csp_prefix.proofs.PortChanges.{IsUse, nothing_ended, use_fine}
 use Rattle.csp_prefix.proofs.PortFacts.{All, fine_of, good_of, grown_but}
 use Rattle.csp_prefix.proofs.PortQuiet.{owing_good}
 use Rattle.csp_prefix.proofs.PortSlots.{AreFineBut, IsFine, book_but, look, machine_but, none_some, owing_but, slot_but, terms_but, whole}
-use Rattle.csp_prefix.proofs.PortViews.{View, now_of, view}
+use Rattle.csp_prefix.proofs.PortViews.{View, is_free-free, now_of, view}
 use Rattle.csp_prefix.specs.Ports.{AreGood, Books, Comes, ComesWith, IsAskedSo, IsInUse, IsSlot, IsVacant, Ordinals, ends_due, with_opened}
 use Rattle.csp_prefix.specs.Slots.{Book, Coming, GoesOn, IsKept, Now, Numbering, blank}
 use Rattle.csp_prefix.specs.Slots.{begun as new_connection}
@@ -159,11 +159,6 @@ module _ {o : OwnFlows} {C : Coming} {Is : Numbering → Seat → Now → Type 0
 
 -- ---- what an application asks for
 
-is_free_slot : (w : Slot) → is_free w ≡ true → w ≡ has.Free
-is_free_slot has.Free e = refl
-is_free_slot has.Held e = absurd cc
-is_free_slot (has.Open c) e = absurd cc
-
 module _ {o : OwnFlows} {C : Coming} {Is : Numbering → Seat → Now → Type 0} (kept : IsKept o C Is)
     {m : Numbering} {ordinals : Ordinals} {books : Books} {p : PlainPorts} (r : Request) (here : r.seat.app < p.conns.apps) (there : r.seat.slot < SLOTS) (asked : IsAskedSo C p r) (g : AreGood Is m ordinals books p) where
   joined_by : (b : Bool) (own time : ℕ) → slot_at p.conns r.seat ≡ has.Free → is_reliable r.flags ≡ b → own_port_of p.conns r.dest r.from ≡ Some own
@@ -196,7 +191,7 @@ module _ {o : OwnFlows} {C : Coming} {Is : Numbering → Seat → Now → Type 0
   connect_on : (free refused : Bool) (own : Option ℕ) (time : ℕ) → is_free (slot_at p.conns r.seat) ≡ free → own_port_of p.conns r.dest r.from ≡ own
       → ComesWith Is m ordinals books p.conns.apps (if free then (if refused then unjoined p r why.PortBusy else unwrap_or (option_map (λ own. joined o p r own time) own) (come p)) else unjoined p r why.Busy)
   connect_on true true own time e f = refused_comes why.PortBusy
-  connect_on true false (Some own) time e f = joined_by (is_reliable r.flags) own time (is_free_slot (slot_at p.conns r.seat) e) refl f
+  connect_on true false (Some own) time e f = joined_by (is_reliable r.flags) own time (is_free-free (slot_at p.conns r.seat) e) refl f
   connect_on true false None time e f = unmade (record { same = refl; new = tt; good = g })
   connect_on false refused own time e f = refused_comes why.Busy
 

@@ -7,7 +7,9 @@ use Rattle.std.proofs.lemmas.List.Sums.{sum_by_push}
 use Rattle.csp_base.specs.Seat.{seat}
 use Rattle.csp_base.specs.declared.seat.Seat.{Seat}
 use Rattle.csp_conn.specs.PlainConns.{place_of, slot_at}
+use Rattle.csp_conn.specs.Slots.{is_free}
 use Rattle.csp_conn.specs.declared.slot.Slot.{Slot}
+use Rattle.csp_conn.specs.declared.slot.Slot.TheVariants as has
 use Rattle.csp_ports.specs.PlainPorts.{PlainPorts, machine_at, stalled_at, terms_at}
 use Rattle.csp_ports.specs.declared.owed.Owed.{Owed}
 use Rattle.csp_ports.specs.declared.terms.Terms.{Terms}
@@ -37,6 +39,12 @@ view p books seat = record {
 -- the connection there
 abbrev pub now_of : View → Now
 now_of v = record { connection = connection_in v.what; flags = v.terms.flags; machine = v.machine; ordinal = v.terms.ordinal; waits = v.waits; book = v.book }
+
+-- a free slot
+pub is_free-free : (s : Slot) → is_free s ≡ true → s ≡ has.Free
+is_free-free has.Free e = refl
+is_free-free has.Held e = absurd cc
+is_free-free (has.Open c) e = absurd cc
 
 -- ---- another slot
 

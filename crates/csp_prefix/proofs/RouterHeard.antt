@@ -11,11 +11,10 @@ use Rattle.csp_base.specs.declared.seat.Seat.{Seat}
 use Rattle.csp_base.specs.declared.traces.Tag.{Tag}
 use Rattle.csp_buffer.specs.Content.{Content}
 use Rattle.csp_conn.specs.Opening.{first_free, found, free_seat}
-use Rattle.csp_conn.specs.PlainConns.{IsThere, PlainConns, place_of, seat_of, slot_at, slots_of}
+use Rattle.csp_conn.specs.PlainConns.{PlainConns, place_of, seat_of, slot_at, slots_of}
 use Rattle.csp_conn.specs.Slots.{is_between, is_free}
 use Rattle.csp_base.specs.declared.limits.TheConstants.{SLOTS}
 use Rattle.csp_conn.specs.declared.slot.Connection.{Connection}
-use Rattle.csp_conn.specs.declared.slot.Slot.{Slot}
 use Rattle.csp_conn.specs.declared.slot.Slot.TheVariants as has
 use Rattle.csp_conn.proofs.Public.{is_between-open}
 use Rattle.csp_crc.specs.Check.{payload_of}
@@ -55,7 +54,7 @@ use Rattle.csp_stack.specs.Serving.{facts_of, reply_header, reply_in, with_facts
 use Rattle.csp_stack.specs.Told.{Told, discarded, leaving, spent, unchanged}
 use Rattle.csp_prefix.specs.Ports.{IsInUse, IsSlot, connection_in, now_at, with_opened}
 use Rattle.csp_prefix.specs.Slots.{Book}
-use Rattle.csp_prefix.proofs.PortViews.{book_same}
+use Rattle.csp_prefix.proofs.PortViews.{book_same, is_free-free}
 use Rattle.csp_prefix.proofs.RouterBooks.{Past, no_openings, no_openings_of, tells_noted, with_openings}
 use Rattle.csp_prefix.proofs.RouterStanding.{Aim, IsAim, IsOut, IsRead, Stands, stands_comes, unwrapped}
 use Rattle.csp_prefix.proofs.RouterBytes.{reliable_flag}
@@ -83,13 +82,8 @@ found_there c x seat all e = by_place (position (is_between x) c.slots) refl e
           is_open = rw whole (is_between-open x _ seen.1);
         })
 
-is_free-free : (s : Slot) → is_free s ≡ true → s ≡ has.Free
-is_free-free has.Free e = refl
-is_free-free has.Held e = absurd cc
-is_free-free (has.Open c) e = absurd cc
-
-free_slot_there : (c : PlainConns) (app slot : ℕ) → first_free c app ≡ Some slot → (slot < SLOTS) × (slot_at c (seat app slot) ≡ has.Free)
-free_slot_there c app slot e =
+pub free_there : (c : PlainConns) (app slot : ℕ) → first_free c app ≡ Some slot → (slot < SLOTS) × (slot_at c (seat app slot) ≡ has.Free)
+free_there c app slot e =
     let first : ℕ = place_of (seat app 0) in
     let seen = position-Some is_free (slots_of c app) slot has.Free e in
     let width : first + SLOTS - first ≡ 4 = omega arith in
@@ -99,16 +93,6 @@ free_slot_there c app slot e =
     let here : get_or (slots_of c app) slot has.Free ≡ slot_at c (seat app slot) =
     ap (λ xs. get_or xs slot has.Free) cut ∙ get_or-take 4 (drop first c.slots) slot has.Free few ∙ get_or-drop first c.slots slot has.Free ∙ ap (λ n. get_or c.slots n has.Free) at in
     (few, sym here ∙ is_free-free _ seen.1)
-
-pub free_there : (c : PlainConns) (app : ℕ) (free : Seat) → app < c.apps → free_seat c app ≡ Some free → IsThere c free × (slot_at c free ≡ has.Free)
-free_there c app free few e = by_slot (first_free c app) refl e
-  where
-    by_slot : (o : Option ℕ) → first_free c app ≡ o → option_map (seat app) o ≡ Some free → IsThere c free × (slot_at c free ≡ has.Free)
-    by_slot None q e = absurd cc
-    by_slot (Some slot) q e =
-        let same : seat app slot ≡ free = cc in
-        let there = free_slot_there c app slot q in
-        subst (λ s. IsThere c s × (slot_at c s ≡ has.Free)) same (record { of_node = few; of_app = there.0 }, there.1)
 
 -- ---- the flags of an answer
 answer_reliable : (h : Header) → is_reliable (answer_flags h) ≡ is_reliable h.flags.0
@@ -227,19 +211,19 @@ module _ (g : Aim) (f : Facts) (whole : Past) (k : IsAim g f whole) where
       let vacant = subst (λ o. IsSlot g.is o (terms_at s.ports seat) w.numbering seat (now_at s.ports w.books seat)) free (w.good.slots seat few low) in
       ap (λ (b : Book). b.opened) vacant.0.book
 
-  accepting_so : (o : Option Seat) (h : Past) (s : State) (app : ℕ) (p : Arrival) → free_seat s.ports.conns app ≡ o → app < s.ports.conns.apps → is_reliable p.head.flags.0 ≡ false → Stands g f h s.ports s.out → Quietly h (accepting o s p)
+  accepting_so : (o : Option ℕ) (h : Past) (s : State) (app : ℕ) (p : Arrival) → first_free s.ports.conns app ≡ o → app < s.ports.conns.apps → is_reliable p.head.flags.0 ≡ false → Stands g f h s.ports s.out → Quietly h (accepting (option_map (seat app) o) s p)
   accepting_so None h s app p e few plain w = stands_discarded h s why.NoSlot p.buffer w
-  accepting_so (Some free) h s app p e few plain w = λ fresh.
-      let found = free_there s.ports.conns app free few e in
-      let there = found.0 in
-      let few_f : free.app < f.apps = subst (λ a. free.app < a) w.apps there.of_node in
+  accepting_so (Some slot) h s app p e few plain w = λ fresh.
+      let free : Seat = seat app slot in
+      let there = free_there s.ports.conns app slot e in
+      let few_f : app < f.apps = subst (λ a. app < a) w.apps few in
       record {
         numbering = w.numbering;
         books = with_opened free (None, None) w.books;
-        good = k.ports.accepts w.numbering h.ends w.books s.ports free (connection_of p.head) p.head.prio (answer_flags p.head) there.of_node there.of_app found.1 (answer_reliable p.head ∙ plain) w.good;
-        tells = tells_noted g.over f.apps w.numbering (event.Opened free.app free.slot None None ∷ []) h w.books ((few_f, there.of_app, free_blank h s w free there.of_node there.of_app found.1), tt) w.tells;
+        good = k.ports.accepts w.numbering h.ends w.books s.ports free (connection_of p.head) p.head.prio (answer_flags p.head) few there.0 there.1 (answer_reliable p.head ∙ plain) w.good;
+        tells = tells_noted g.over f.apps w.numbering (event.Opened app slot None None ∷ []) h w.books ((few_f, there.0, free_blank h s w free few there.0 there.1), tt) w.tells;
         apps = w.apps;
-        out = (few_f, there.of_app, ap (λ (b : Book). b.opened) (book_same free _ w.books));
+        out = (few_f, there.0, ap (λ (b : Book). b.opened) (book_same free _ w.books));
       }
 
   abbrev IsAsked : Header → Result Invitation Discard → Type 0
@@ -261,23 +245,23 @@ module _ (g : Aim) (f : Facts) (whole : Past) (k : IsAim g f whole) where
   invitation_so (Some read) b bytes q hears here rdp un =
       asked_by_so (has_flag read.1 SYN) (has_flag read.1 ACK || has_flag read.1 RST) b bytes read refl hears (record { here = here; reliable = rdp; is_unwrapped = un; is_parted = q })
 
-  inviting_so : (r : Result Invitation Discard) (o : Option Seat) (h : Past) (s : State) (app time : ℕ) (p : Arrival) → IsAsked p.head r → free_seat s.ports.conns app ≡ o → app < s.ports.conns.apps → is_reliable p.head.flags.0 ≡ true → Stands g f h s.ports s.out
-      → Quietly h (inviting r o (router f s) time p)
+  inviting_so : (r : Result Invitation Discard) (o : Option ℕ) (h : Past) (s : State) (app time : ℕ) (p : Arrival) → IsAsked p.head r → first_free s.ports.conns app ≡ o → app < s.ports.conns.apps → is_reliable p.head.flags.0 ≡ true → Stands g f h s.ports s.out
+      → Quietly h (inviting r (option_map (seat app) o) (router f s) time p)
   inviting_so (Err reason) o h s app time p so e few reliable w = stands_discarded h s reason p.buffer w
   inviting_so (Ok i) None h s app time p so e few reliable w = stands_discarded h s why.NoSlot p.buffer w
-  inviting_so (Ok i) (Some free) h s app time p so e few reliable w = λ fresh.
-      let found = free_there s.ports.conns app free few e in
-      let there = found.0 in
+  inviting_so (Ok i) (Some slot) h s app time p so e few reliable w = λ fresh.
+      let free : Seat = seat app slot in
+      let there = free_there s.ports.conns app slot e in
       let c = invited (flows_of f) i free time (accepted s.ports free (connection_of p.head) p.head.prio (answer_flags p.head)) in
-      let done = k.ports.invites w.numbering h.ends w.books s.ports free (connection_of p.head) p.head.prio (answer_flags p.head) i time there.of_node there.of_app found.1 (answer_reliable p.head ∙ reliable) so.0 so.1 w.good in
+      let done = k.ports.invites w.numbering h.ends w.books s.ports free (connection_of p.head) p.head.prio (answer_flags p.head) i time few there.0 there.1 (answer_reliable p.head ∙ reliable) so.0 so.1 w.good in
       stands_comes g f h s.ports s.out w done.after c done.goes_on k.grows done.comes
 
   opening_so : (reliable : Bool) (h : Past) (s : State) (app time mark : ℕ) (b : Content) (bytes : List ℕ) → is_reliable (header_at b.header).flags.0 ≡ reliable → g.hears b → is_here f.addr (header_at b.header) ≡ true → unwrapped (is_checked (header_at b.header)) b.payload ≡ Some bytes
       → app < s.ports.conns.apps → Stands g f h s.ports s.out
       → Quietly h (if reliable then inviting (invitation_in (parted bytes) b.trace.tag) (free_seat s.ports.conns app) (router f s) time (after_checksum mark b bytes) else accepting (free_seat s.ports.conns app) s (after_checksum mark b bytes))
-  opening_so false h s app time mark b bytes e hears here un few w = accepting_so (free_seat s.ports.conns app) h s app (after_checksum mark b bytes) refl few e w
+  opening_so false h s app time mark b bytes e hears here un few w = accepting_so (first_free s.ports.conns app) h s app (after_checksum mark b bytes) refl few e w
   opening_so true h s app time mark b bytes e hears here un few w =
-      inviting_so (invitation_in (parted bytes) b.trace.tag) (free_seat s.ports.conns app) h s app time (after_checksum mark b bytes) (invitation_so (parted bytes) b bytes refl hears here e un) refl few e w
+      inviting_so (invitation_in (parted bytes) b.trace.tag) (first_free s.ports.conns app) h s app time (after_checksum mark b bytes) (invitation_so (parted bytes) b bytes refl hears here e un) refl few e w
 
   at_socket_so : (lacking : Bool) (h : Past) (s : State) (app time mark : ℕ) (b : Content) (bytes : List ℕ) → Stands g f h s.ports s.out → Quietly h (opening app f s time (after_checksum mark b bytes))
       → Quietly h (if lacking then discarded s why.Required (record b { payload = bytes }) else opening app f s time (after_checksum mark b bytes))
