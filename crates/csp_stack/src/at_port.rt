@@ -11,7 +11,7 @@ ghost use Rattle.csp_stack.specs.Keeps.{Keeps};
 ghost use Rattle.csp_stack.specs.Party.{IsSendable};
 ghost use Rattle.csp_stack.specs.Readings.{is_checked};
 ghost use Rattle.csp_stack.specs.Router.{router};
-ghost use Rattle.csp_stack.specs.Rules.{accepting, inviting, invitation_of, is_mixed, of_no_connection, opening, to_connection, to_machine, to_no_socket, to_slot};
+ghost use Rattle.csp_stack.specs.Rules.{accepting, inviting, invitation_of, is_mixed, of_no_connection, opening, seat_for, to_connection, to_machine, to_no_socket, to_slot};
 ghost use Rattle.csp_stack.specs.Told.{leaving};
 
 use crate::Outgoing;
@@ -22,7 +22,6 @@ use crate::readings::{are_flags_reliable, is_packet_lacking, is_packet_reliable}
 use crate::services::judge_service;
 use crate::state::State;
 use csp_base::{SLOTS, Seat};
-use csp_conn::Connection;
 use csp_deck::{Discard, Event, Events};
 
 /// The first of the rules from the fourth on that decides.
@@ -97,12 +96,7 @@ fn judge_connection(
     ensures keeps { MatchOption result (Keeps (length facts.now.ifaces) state.old.state state.new.state (packet.buffer.picture.number ∷ [])) (λ _. ⊤) }
 {
     let header = packet.header;
-    let connection = Connection {
-        peer: header.src,
-        peer_port: header.sport,
-        own_port: header.dport,
-    };
-    let Some(seat) = state.ports.find(connection) else {
+    let Some(seat) = seat_for(state, &packet) else {
         return Some(packet);
     };
     if is_apart(state, seat, &packet) {
@@ -115,17 +109,20 @@ fn judge_connection(
     None
 }
 
+/// The slot whose connection a packet is of.
+fn seat_for(state: &State, packet: &Packet) -> Option<Seat>
+    ensures value { result ≡ seat_for state.now.state (arrival_of packet.now) }
+    ensures there { IfSome result (λ seat. IsThere state.now.state.ports.conns seat) }
+{
+    state.ports.find(packet.connection())
+}
+
 /// Whether a packet is of the reliable transport and the connection on a slot is not, or the other way round.
 fn is_apart(state: &State, seat: Seat, packet: &Packet) -> bool
     requires there { IsThere state.now.state.ports.conns seat }
     ensures { result ≡ is_mixed state.now.state seat (arrival_of packet.now) }
 {
-    let flags = state.ports.terms(seat).flags;
-    if is_packet_reliable(&packet.header) {
-        !are_flags_reliable(flags)
-    } else {
-        are_flags_reliable(flags)
-    }
+    is_packet_reliable(&packet.header) != are_flags_reliable(state.ports.terms(seat).flags)
 }
 
 /// A packet of the connection on a slot goes to its application, or its machine.
