@@ -70,13 +70,13 @@ pub record IsAmong (x : Opening) (xs : List Opening) : Type 0 where
   pub at : ℕ
   pub there : slice_get xs at ≡ Some x
 
+pub get_more : {X : Type 0} (xs ys : List X) (i : ℕ) (x : X) → slice_get xs i ≡ Some x → slice_get (xs ++ ys) i ≡ Some x
+get_more [] ys i x e = absurd cc
+get_more (z ∷ zs) ys zero x e = e
+get_more (z ∷ zs) ys (suc i) x e = get_more zs ys i x e
+
 pub among_more : (x : Opening) (xs ys : List Opening) → IsAmong x xs → IsAmong x (xs ++ ys)
-among_more x xs ys a = record { at = a.at; there = get_more xs ys a.at a.there }
-  where
-    get_more : (zs us : List Opening) (i : ℕ) → slice_get zs i ≡ Some x → slice_get (zs ++ us) i ≡ Some x
-    get_more [] us i e = absurd cc
-    get_more (z ∷ zs) us zero e = e
-    get_more (z ∷ zs) us (suc i) e = get_more zs us i e
+among_more x xs ys a = record { at = a.at; there = get_more xs ys a.at x a.there }
 
 pub among_last : (x : Opening) (xs : List Opening) → IsAmong x (xs ++ x ∷ [])
 among_last x [] = record { at = 0; there = refl }

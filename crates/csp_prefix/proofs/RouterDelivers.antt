@@ -26,11 +26,12 @@ use Rattle.csp_prefix.specs.Machines.{IsReceiver, IsToldSo, Receives, ReceivesIn
 use Rattle.csp_prefix.specs.Ports.{ArePortsKept}
 use Rattle.csp_prefix.specs.Prefix.{IsBeginning}
 use Rattle.csp_consistent.specs.Reading.{gets}
+use Rattle.csp_consistent.proofs.Public.{each_first, each_last}
 use Rattle.csp_prefix.specs.Routers.{DeliversPrefix, HasNoStale, HearsGenuine, IsGenuineItem, IsRouterLog}
-use Rattle.csp_prefix.specs.Slots.{Book, Now, blank}
+use Rattle.csp_prefix.specs.Slots.{Now}
 use Rattle.csp_prefix.proofs.RouterBooks.{all_at}
 use Rattle.csp_prefix.proofs.RouterBytes.{parted_back, unwrapped_is}
-use Rattle.csp_prefix.proofs.RouterStanding.{Aim, IsAim, unwrapped}
+use Rattle.csp_prefix.proofs.RouterStanding.{Aim, IsAim, blank_unopened, not_false, unwrapped}
 use Rattle.csp_prefix.proofs.RouterTrue.{each_comes, opening_known, past, run_known}
 use Rattle.csp_prefix.proofs.RouterRun.{found_any}
 use Rattle.csp_stack.specs.Config.{opening_state}
@@ -49,19 +50,16 @@ receiver_aim flows = record {
 }
 
 -- no reliable connection is open as a plain one is
-unopened : (b : Book) → b ≡ blank → b.opened ≡ Some (None, None) → ⊥
-unopened b e is = let none : b.opened ≡ None = ap (λ (c : Book). c.opened) e in cc
-
 told_not : (was : Bool) (n : Now) → n.machine.was_open ≡ was → IsToldSo n → n.book.opened ≡ Some (None, None) → ⊥
 told_not true n e told is =
     let both : ◌≡◌ {A = Option (Option ℕ × Option (ℕ × ℕ))} (Some (Some n.machine.nth, n.machine.peer)) (Some (None, None)) = sym (told.0 e) ∙ is in
     let first : ◌≡◌ {A = Option ℕ} (Some n.machine.nth) None = ap (λ (o : Option (Option ℕ × Option (ℕ × ℕ))). (unwrap_or o (None, None)).0) both in
     absurd cc
-told_not false n e told is = unopened n.book (told.1 e).book is
+told_not false n e told is = blank_unopened n.book (None, None) (told.1 e).book is
 
 receiver_not : (s : State) (flows : Flows) (n : Now) → ReceivesIn s flows n → n.book.opened ≡ Some (None, None) → ⊥
-receiver_not SynSent flows n r is = unopened n.book r.0.book is
-receiver_not SynRcvd flows n r is = unopened n.book r.0.book is
+receiver_not SynSent flows n r is = blank_unopened n.book (None, None) r.0.book is
+receiver_not SynRcvd flows n r is = blank_unopened n.book (None, None) r.0.book is
 receiver_not Open flows n r is = told_not n.machine.was_open n refl r.0 is
 receiver_not CloseWait flows n r is = told_not n.machine.was_open n refl r.0 is
 receiver_not Closed flows n r is = told_not n.machine.was_open n refl r.0 is
@@ -74,10 +72,6 @@ read_true flows b payload read t x un q =
     let both : ◌≡◌ {A = Option (List ℕ × RdpHead)} (Some (x.bytes, x.head)) (Some read) = sym (parted_back x.bytes x.head x.true_of.range.0 x.true_of.range.1) ∙ ap parted same ∙ q in
     let is : (x.bytes, x.head) ≡ read = ap (λ (o : Option (List ℕ × RdpHead)). unwrap_or o read) both in
     subst (λ (p : List ℕ × RdpHead). IsTrueOf flows t p.1 p.0) is x.true_of
-
-not_false : (t : Bool) → not t ≡ false → t ≡ true
-not_false true e = refl
-not_false false e = absurd cc
 
 pub fed_tag : (o : Option Tag) (flow : ℕ × ℕ) (cur una : ℕ) → is_stale_at (Some flow) o cur una ≡ false → (t : Tag) × (o ≡ Some t) × (flow_of t ≡ flow) × (is_far t.index cur ≡ false)
 fed_tag None flow cur una e = absurd cc
@@ -108,13 +102,9 @@ receiver_is_aim f es flows ports receives = record {
 }
 
 -- ---- no event tells of a stale copy
-first_all : {X : Type 0} (P : X → Type 0) (xs ys : List X) → AllByRecursion P (xs ++ ys) → AllByRecursion P xs × AllByRecursion P ys
-first_all P [] ys all = (tt, all)
-first_all P (x ∷ xs) ys all = let rest = first_all P xs ys all.1 in ((all.0, rest.0), rest.1)
-
 pub none_stale : (es : List Entry) → HasNoStale es → AllByRecursion (λ e. AllByRecursion {X = Event} (λ v. is_stale v ≡ false) e.events.items) es
 none_stale [] all = tt
-none_stale (e ∷ es) all = let parts = first_all (λ v. is_stale v ≡ false) e.events.items (all_events es) all in (parts.0, none_stale es parts.1)
+none_stale (e ∷ es) all = (each_first (λ v. is_stale v ≡ false) e.events.items (all_events es) all, none_stale es (each_last (λ v. is_stale v ≡ false) e.events.items (all_events es) all))
 
 pub delivers_prefix : (f : Facts) (routes : Routes) (es : List Entry) (flows : Flows) → ArePortsKept (flows_of f) (true_packets flows) (IsReceiver flows) → Receives (IsReceiver flows) flows → IsRouterLog f routes es → HearsGenuine flows es → HasNoStale es
     → DeliversPrefix flows es

@@ -1,5 +1,5 @@
 -- what comes of a packet that a router hears
-use Rattle.std.proofs.Common.{◌≡◌, inl, inr, ℕ, ◌+◌, ◌-◌, ◌*◌, ◌/◌, ◌%◌, ◌<◌, ◌==◌, ◌||◌, not, Bool, true, false, Option, None, Some, List, [], ◌∷◌, length, take, drop, get_or, refl, sym, ap, ◌∙◌, subst, arith}
+use Rattle.std.proofs.Common.{◌≡◌, inl, inr, ℕ, ◌+◌, ◌-◌, ◌*◌, ◌/◌, ◌%◌, ◌<◌, ◌==◌, ◌||◌, Bool, true, false, Option, None, Some, List, [], ◌∷◌, length, take, drop, get_or, refl, sym, ap, ◌∙◌, subst, arith}
 use Rattle.std.specs.Prelude.{IfSome, Result, Ok, Err, if◌then◌else◌}
 use Rattle.std.specs.List.{AllByRecursion, position}
 use Rattle.std.specs.Option.{option_map}
@@ -56,7 +56,7 @@ use Rattle.csp_prefix.specs.Ports.{IsInUse, IsSlot, connection_in, now_at, with_
 use Rattle.csp_prefix.specs.Slots.{Book}
 use Rattle.csp_prefix.proofs.PortViews.{book_same, is_free-free}
 use Rattle.csp_prefix.proofs.RouterBooks.{Past, no_openings, no_openings_of, tells_noted, with_openings}
-use Rattle.csp_prefix.proofs.RouterStanding.{Aim, IsAim, IsOut, IsRead, Stands, stands_comes, unwrapped}
+use Rattle.csp_prefix.proofs.RouterStanding.{Aim, IsAim, IsOut, IsRead, Stands, not_false, stands_comes, unwrapped}
 use Rattle.csp_prefix.proofs.RouterBytes.{reliable_flag}
 use Rattle.csp_prefix.proofs.RouterMute.{IsMute, answered_mute, order_opens}
 use Rattle.std.specs.Int.Bits.{and_zero_r}
@@ -186,10 +186,6 @@ module _ (g : Aim) (f : Facts) (whole : Past) (k : IsAim g f whole) where
       stands_leaving h s (to_slot seat (record b { payload = bytes })) w (subst (λ a. seat.app < a) w.apps x.app_there, x.slot_there, plain_opened h s w (connection_of (header_at b.header)) seat x same)
   to_connection_so true h s seat time mark b bytes rdp hears here un x same w =
       to_machine_so (parted bytes) h s seat time mark b bytes refl hears here rdp un x (not_false (is_reliable (terms_at s.ports seat).flags) same) w
-    where
-      not_false : (t : Bool) → not t ≡ false → t ≡ true
-      not_false true e = refl
-      not_false false e = absurd cc
 
   at_connection_so : (mixed lacking : Bool) (at : Seat) (h : Past) (s : State) (time mark : ℕ) (b : Content) (bytes : List ℕ) → is_mixed s at (after_checksum mark b bytes) ≡ mixed → Stands g f h s.ports s.out
       → (is_mixed s at (after_checksum mark b bytes) ≡ false → Quietly h (to_connection s at time (after_checksum mark b bytes)))

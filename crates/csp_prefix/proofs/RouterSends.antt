@@ -1,5 +1,5 @@
 -- a router's connections have numbers of their own, and it sends genuine packets
-use Rattle.std.proofs.Common.{◌≡◌, ℕ, pos, zero, suc, ◌-◌, ◌<◌, ◌==◌, Bool, true, false, Option, None, Some, List, [], ◌∷◌, ◌++◌, refl, sym, ap, ◌∙◌, subst, arith}
+use Rattle.std.proofs.Common.{◌≡◌, ℕ, pos, ◌-◌, ◌<◌, ◌==◌, Bool, true, false, Option, None, Some, List, [], ◌∷◌, ◌++◌, refl, sym, ap, ◌∙◌, subst, arith}
 use Rattle.std.specs.Prelude.{⊤, if◌then◌else◌, ℤ, ◌+ℤ◌}
 use Rattle.std.specs.List.{AllByRecursion, slice_get}
 use Rattle.std.specs.Option.{unwrap_or}
@@ -36,12 +36,12 @@ use Rattle.csp_prefix.specs.Machines.{IsOpeningOf, IsOver, IsSender, MakesTrue, 
 use Rattle.csp_prefix.specs.Ports.{ArePortsKept, Books, now_at}
 use Rattle.csp_prefix.specs.Prefix.{IsBeginning}
 use Rattle.csp_prefix.specs.Routers.{AreNumbered, AreShown, IsFlowOf, IsHeard, IsRouterLog, SendsGenuine, ArePlaced}
-use Rattle.csp_prefix.specs.Slots.{Book, GoesOn, Now, Numbering, blank}
-use Rattle.csp_prefix.proofs.RouterBooks.{IsAmong, Past, Tells, no_past, opening_on}
+use Rattle.csp_prefix.specs.Slots.{Book, GoesOn, Now, Numbering}
+use Rattle.csp_prefix.proofs.RouterBooks.{IsAmong, Past, Tells, get_more, no_past, opening_on}
 use Rattle.csp_prefix.proofs.RouterBytes.{checked_flag}
 use Rattle.csp_prefix.proofs.RouterHeard.{protected_trace}
 use Rattle.csp_prefix.proofs.RouterRun.{IsRunSo, found_any}
-use Rattle.csp_prefix.proofs.RouterStanding.{Aim, IsAim, IsPart}
+use Rattle.csp_prefix.proofs.RouterStanding.{Aim, IsAim, IsPart, blank_unopened}
 use Rattle.csp_prefix.proofs.RouterTrue.{each_comes, opening_known, opening_placed, past, past_opened, past_sent, run_known}
 use Rattle.csp_conn.specs.PlainConns.{slot_at}
 use Rattle.csp_stack.specs.Config.{opening_state}
@@ -60,9 +60,6 @@ sender_aim f es good = record {
 }
 
 -- no reliable connection is open as a plain one is
-unopened : (b : Book) → b ≡ blank → b.opened ≡ Some (None, None) → ⊥
-unopened b e is = let none : b.opened ≡ None = ap (λ (c : Book). c.opened) e in cc
-
 numbered_not : (m : Numbering) (seat : Seat) (n : Now) → WasOpened m seat n → n.book.opened ≡ Some (None, None) → ⊥
 numbered_not m seat n was is =
     let both : ◌≡◌ {A = Option (Option ℕ × Option (ℕ × ℕ))} (Some (Some n.machine.nth, n.machine.peer)) (Some (None, None)) = sym was.opened ∙ is in
@@ -71,11 +68,11 @@ numbered_not m seat n was is =
 
 over_not : (was : Bool) (m : Numbering) (seat : Seat) (n : Now) → n.machine.was_open ≡ was → IsOver m seat n → n.book.opened ≡ Some (None, None) → ⊥
 over_not true m seat n e over is = numbered_not m seat n (over.0 e) is
-over_not false m seat n e over is = unopened n.book (over.1 e).book is
+over_not false m seat n e over is = blank_unopened n.book (None, None) (over.1 e).book is
 
 pub sender_not : (s : State) (o : OwnFlows) (m : Numbering) (seat : Seat) (n : Now) → SendsIn s o m seat n → n.book.opened ≡ Some (None, None) → ⊥
-sender_not SynSent o m seat n sends is = unopened n.book sends.1.book is
-sender_not SynRcvd o m seat n sends is = unopened n.book sends.1.book is
+sender_not SynSent o m seat n sends is = blank_unopened n.book (None, None) sends.1.book is
+sender_not SynRcvd o m seat n sends is = blank_unopened n.book (None, None) sends.1.book is
 sender_not Open o m seat n sends is = numbered_not m seat n sends.1 is
 sender_not CloseWait o m seat n sends is = over_not n.machine.was_open m seat n refl sends is
 sender_not Closed o m seat n sends is = over_not n.machine.was_open m seat n refl sends is
@@ -143,11 +140,6 @@ number_small start t = wrapped_small (pos start +ℤ t)
 small_ack : (t : Bool) (n : ℕ) → n < 65536 → (if t then 0 else n) < 65536
 small_ack true n lt = omega arith
 small_ack false n lt = lt
-
-get_more : {X : Type 0} (xs ys : List X) (i : ℕ) (x : X) → slice_get xs i ≡ Some x → slice_get (xs ++ ys) i ≡ Some x
-get_more [] ys i x e = absurd cc
-get_more (z ∷ zs) ys zero x e = e
-get_more (z ∷ zs) ys (suc i) x e = get_more zs ys i x e
 
 said_more : (xs ys : List (List ℕ)) (index : ℕ) (bytes : List ℕ) → IsBeginning xs ys → IsSaid xs index bytes → IsSaid ys index bytes
 said_more xs ys index bytes b is = record { low = is.low; there = subst (λ zs. slice_get zs (index - 1) ≡ Some bytes) b.whole (get_more xs b.rest (index - 1) bytes is.there) }

@@ -1,5 +1,5 @@
 -- what holds of a router between two steps, for what is to be known of its connections
-use Rattle.std.proofs.Common.{◌≡◌, ◌⊎◌, ℕ, ◌<◌, ◌==◌, Bool, true, false, Option, None, Some, List, [], ◌∷◌, refl, sym, ap, ◌∙◌, subst}
+use Rattle.std.proofs.Common.{◌≡◌, ◌⊎◌, ℕ, ◌<◌, ◌==◌, not, Bool, true, false, Option, None, Some, List, [], ◌∷◌, refl, sym, ap, ◌∙◌, subst}
 use Rattle.std.specs.Prelude.{⊤}
 use Rattle.csp_base.specs.Seat.{seat}
 use Rattle.csp_base.specs.declared.seat.Seat.{Seat}
@@ -58,6 +58,10 @@ abbrev pub unwrapped : (is_checked : Bool) → List ℕ → Option (List ℕ)
 unwrapped true bytes = payload_of bytes
 unwrapped false bytes = Some bytes
 
+pub not_false : (t : Bool) → not t ≡ false → t ≡ true
+not_false true e = refl
+not_false false e = absurd cc
+
 -- what was told so far is a part of the whole
 pub record IsPart (h whole : Past) : Type 0 where
   pub sent : (seat : Seat) (ordinal : ℕ) → IsBeginning (h.sent seat ordinal) (whole.sent seat ordinal)
@@ -113,7 +117,7 @@ pub record Stands (g : Aim) (f : Facts) (h : Past) (p : PlainPorts) (leaves : Op
 abbrev now_with : PlainPorts → Seat → Book → Now
 now_with p seat b = record { connection = connection_in (slot_at p.conns seat); flags = (terms_at p seat).flags; machine = machine_at p seat; ordinal = (terms_at p seat).ordinal; waits = waiting_on seat.slot (stalled_at p seat.app); book = b }
 
-blank_unopened : (b : Book) (how : Option ℕ × Option (ℕ × ℕ)) → b ≡ blank → b.opened ≡ Some how → ⊥
+pub blank_unopened : (b : Book) (how : Option ℕ × Option (ℕ × ℕ)) → b ≡ blank → b.opened ≡ Some how → ⊥
 blank_unopened b how e is = let none : b.opened ≡ None = ap (λ (c : Book). c.opened) e in cc
 
 module _ (g : Aim) (f : Facts) (whole : Past) (k : IsAim g f whole) where

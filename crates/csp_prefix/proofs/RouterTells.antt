@@ -1,7 +1,7 @@
 -- What the events of a router's turn tell: those of its timers, of lost packets alone; those of an application's packet, besides, that it was sent on its slot.
 -- That a packet was handed to a reliable connection a turn tells only of the one that it popped, and that such a connection is open only of one that was
 -- to become so.
-use Rattle.std.proofs.Common.{◌≡◌, ◌⊎◌, inl, inr, ℕ, ◌*◌, ◌==◌, not, Bool, true, false, cond, Option, None, Some, List, [], ◌∷◌, ◌++◌, refl, sym, ap, ◌∙◌, subst}
+use Rattle.std.proofs.Common.{◌≡◌, ◌⊎◌, inl, inr, ℕ, ◌*◌, ◌==◌, Bool, true, false, cond, Option, None, Some, List, [], ◌∷◌, ◌++◌, refl, sym, ap, ◌∙◌, subst}
 use Rattle.std.specs.Prelude.{if◌then◌else◌, Result, Ok, Err, unwrap_or, ⊤}
 use Rattle.std.specs.Option.{option_map}
 use Rattle.std.specs.List.{AllByRecursion, range_with_len}
@@ -88,7 +88,7 @@ use Rattle.csp_prefix.proofs.MachineOpens.{IsEarly, opens-early, ways-not}
 use Rattle.csp_prefix.proofs.MachineSteps.{ways-reset, ways-ticked}
 use Rattle.csp_prefix.proofs.RouterEntry.{AreUnsent}
 use Rattle.csp_prefix.proofs.RouterMute.{IsMute, IsOrder, answered_mute}
-use Rattle.csp_prefix.proofs.RouterStanding.{IsRead, unwrapped}
+use Rattle.csp_prefix.proofs.RouterStanding.{IsRead, not_false, unwrapped}
 
 -- ---- what a turn may tell
 
@@ -419,10 +419,6 @@ module _ (f : Facts) (s : State) (time mark : ℕ) (b : Content) where
           told = refl;
         };
       })
-
-  not_false : (t : Bool) → not t ≡ false → t ≡ true
-  not_false true e = refl
-  not_false false e = absurd cc
 
   to_connection_shows : (reliable : Bool) (seat : Seat) (bytes : List ℕ) → is_reliable (header_at b.header).flags.0 ≡ reliable → is_here f.addr (header_at b.header) ≡ true → unwrapped (is_checked (header_at b.header)) b.payload ≡ Some bytes
       → found s.ports.conns (connection_of (header_at b.header)) ≡ Some seat → differs reliable (is_reliable (terms_at s.ports seat).flags) ≡ false

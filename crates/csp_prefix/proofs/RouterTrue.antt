@@ -1,5 +1,5 @@
 -- what is known of a router by the whole of its log, for what is to be known of its connections
-use Rattle.std.proofs.Common.{◌≡◌, ℕ, zero, suc, ◌+◌, ◌<◌, ◌≤◌, None, Some, List, [], ◌∷◌, ◌++◌, length, refl, sym, ap, ◌∙◌, subst, arith}
+use Rattle.std.proofs.Common.{◌≡◌, ℕ, suc, ◌+◌, ◌<◌, ◌≤◌, None, Some, List, [], ◌∷◌, ◌++◌, length, refl, sym, ap, ◌∙◌, subst, arith}
 use Rattle.std.specs.Prelude.{⊤}
 use Rattle.std.specs.List.{AllByRecursion, slice_get}
 use Rattle.std.proofs.lemmas.List.{append-nil}
@@ -29,7 +29,7 @@ use Rattle.csp_consistent.specs.Reading.{got_by, gets}
 use Rattle.csp_prefix.specs.Routers.{ComesSo, IsFlowOf, IsRouterLog}
 use Rattle.csp_prefix.specs.Slots.{blank}
 use Rattle.csp_prefix.proofs.PayloadReads.{delivered_are}
-use Rattle.csp_prefix.proofs.RouterBooks.{Past, all_at, no_past, over_now, tells_nothing}
+use Rattle.csp_prefix.proofs.RouterBooks.{Past, all_at, get_more, no_past, over_now, tells_nothing}
 use Rattle.csp_prefix.proofs.RouterRun.{AreFound, IsCome, IsRunSo, past_of, reads_down, reads_opened, reads_sent, run_stands}
 use Rattle.csp_prefix.proofs.RouterStanding.{Aim, IsAim, IsPart, Stands, over_present}
 use Rattle.csp_prefix.proofs.RouterTurn.{HearsSo}
@@ -69,17 +69,12 @@ heard_one g (op.Pop queue.Inbox) (answer.Popped (item.Packet mark b)) h c = h 0 
 heard_one g (op.Pop (queue.Up k)) (answer.Popped i) h c = c
 heard_one g _ _ h c = tt
 
-get_first : (xs ys : List ItemShown) (i : ℕ) (x : ItemShown) → slice_get xs i ≡ Some x → slice_get (xs ++ ys) i ≡ Some x
-get_first [] ys i x e = absurd cc
-get_first (z ∷ zs) ys zero x e = e
-get_first (z ∷ zs) ys (suc i) x e = get_first zs ys i x e
-
 pub heard_all : (g : Aim) (es : List Entry) → ((at mark : ℕ) (b : Content) → slice_get (gets queue.Inbox es) at ≡ Some (item.Packet mark b) → g.hears b)
     → AllByRecursion (λ e. ComesUp g e.op e.answer) es → AllByRecursion (λ e. HearsSo g e.op e.answer) es
 heard_all g [] h c = tt
 heard_all g (e ∷ es) h c =
     let first : List ItemShown = got_by queue.Inbox e.op e.answer in (
-      heard_one g e.op e.answer (λ at mark b q. h at mark b (get_first first (gets queue.Inbox es) at (item.Packet mark b) q)) c.0,
+      heard_one g e.op e.answer (λ at mark b q. h at mark b (get_more first (gets queue.Inbox es) at (item.Packet mark b) q)) c.0,
       heard_all g es (λ at mark b q. h (length first + at) mark b (get_past first (gets queue.Inbox es) at ∙ q)) c.1,
     )
 

@@ -51,6 +51,7 @@ use Rattle.csp_stack.specs.Turn.{asked_at, until_answer, asks_at, brought, deliv
 use Rattle.csp_stack.specs.declared.plan.Plan.{Plan}
 use Rattle.csp_stack.specs.declared.plan.Plan.TheVariants as plan
 use Rattle.csp_stack.specs.declared.sources.Source.TheVariants as source
+use Rattle.csp_consistent.proofs.Public.{each_last}
 use Rattle.csp_prefix.specs.Delivered.{delivered_by}
 use Rattle.csp_prefix.specs.Ports.{AreGood, Answers, with_book, with_down}
 use Rattle.csp_prefix.specs.Prefix.{IsBeginning}
@@ -406,10 +407,6 @@ module _ (g : Aim) (f : Facts) (whole : Past) (k : IsAim g f whole) where
   turn_plan [] None h s time a so e w = turn_place (place_with_work f s time) h s time a so refl e w
 
   -- ---- a whole turn
-  all_second : {X : Type 0} (P : X → Type 0) (xs ys : List X) → AllByRecursion P (xs ++ ys) → AllByRecursion P ys
-  all_second P [] ys all = all
-  all_second P (x ∷ xs) ys all = all_second P xs ys all.1
-
   -- the router once its timers were tried
   pub stands_timed : (h : Past) (s : State) (time : ℕ) → Stands g f h s.ports s.out → Stands g f (with_openings (ports_timed time s.ports).events h) (timed s time).ports (timed s time).out
   stands_timed h s time w =
@@ -438,5 +435,5 @@ module _ (g : Aim) (f : Facts) (whole : Past) (k : IsAim g f whole) where
       let t : State = timed s time in
       let told : Told = after_told t time (plan_of f t time) a in
       let same = timed_first h s time a w in
-      let done = turn_plan t.trash t.out (with_openings c.events h) t time a so refl (stands_timed h s time w) fits comes hears (subst (λ x. IsPart x whole) (sym same) part) (all_second g.fresh c.events told.events (subst (AllByRecursion g.fresh) (events_are f s time a (plan_of f t time) refl) fresh)) in
+      let done = turn_plan t.trash t.out (with_openings c.events h) t time a so refl (stands_timed h s time w) fits comes hears (subst (λ x. IsPart x whole) (sym same) part) (each_last g.fresh c.events told.events (subst (AllByRecursion g.fresh) (events_are f s time a (plan_of f t time) refl) fresh)) in
       (subst (λ x. Stands g f x told.state.ports told.state.out) same done.0, done.1)
