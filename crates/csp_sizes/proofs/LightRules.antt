@@ -36,7 +36,7 @@ use Rattle.csp_ports.proofs.Public.{all_or}
 use Rattle.csp_ports.specs.Asking.{close, connect, is_reliable}
 use Rattle.csp_ports.specs.Came.{Came}
 use Rattle.csp_ports.specs.Packets.{accepted, handing, invited, submitting}
-use Rattle.csp_ports.specs.PlainPorts.{PlainPorts, machines_of, terms_at}
+use Rattle.csp_ports.specs.PlainPorts.{machines_of, terms_at}
 use Rattle.csp_ports.specs.Tasks.{made_in, making}
 use Rattle.csp_ports.specs.declared.handing.Invitation.{Invitation}
 use Rattle.csp_ports.specs.declared.request.Request.{Request}
