@@ -193,5 +193,5 @@ can_assemble scene wires xs unposted sides is opened few count blank roomy =
           (can_posts xs (whos unposted) 0 unposted (λ k j t e same.
           let at : slice_get (parties_of scene) k ≡ Some (unposted_name t) = ap (λ os. slice_get os k) (sym opened.names) ∙ slice_get-map unposted_name unposted k ∙ ap (option_map unposted_name) e in
           subst (λ p. CanPost t (its_ends xs (whos unposted) p t.who)) (omega (arith, same))
-          (can_post scene xs (whos unposted) k t (unposted_name t) opened.laws at refl (all_at (IsUnposted xs) unposted k t opened.unposted e) (its_new scene rows xs unposted k t opened e)))));
+          (can_post scene xs (whos unposted) k t (unposted_name t) opened.laws at refl (all_at (IsUnposted xs) unposted k t opened.each e) (its_new scene rows xs unposted k t opened e)))));
     }

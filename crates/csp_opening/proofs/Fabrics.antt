@@ -146,7 +146,7 @@ pub record AreOpened (scene : PlainScene) (wires : List (List Wire)) (xs : List 
   pub nodes : AreNodesWith (plans_from 0 scene.nodes scene.links) wires xs
   pub rows : AllZip (AllZip (IsWireOf scene)) (wires_of scene) wires
   pub names : map unposted_name unposted ≡ parties_of scene
-  pub unposted : AllByRecursion (IsUnposted xs) unposted
+  pub each : AllByRecursion (IsUnposted xs) unposted
   pub apart : NamedApart (map (λ (o : PlainOpening). o.who) (parties_of scene))
 
 whos_named : (unposted : List Unposted) → whos unposted ≡ map (λ (o : PlainOpening). o.who) (map unposted_name unposted)
@@ -294,7 +294,7 @@ is_fabric scene wires xs unposted f are is made =
         nodes = nodes_of scene 0 scene.nodes (wires_of scene) rows xs is.nodes is.rows;
         regions = length-map xs region_in ∙ sym (length-map xs queues_in);
         parties = posts_from_here scene xs (whos unposted) 0 (parties_of scene) unposted is.names (λ k j t e same.
-            is_post scene xs (whos unposted) j t (unposted_name t) refl (all_at (IsUnposted xs) unposted k t is.unposted e)
+            is_post scene xs (whos unposted) j t (unposted_name t) refl (all_at (IsUnposted xs) unposted k t is.each e)
             (subst (λ p. IsPartyNew scene xs (whos unposted) p t.who) (omega (arith, same)) (its_new scene rows xs unposted k t is e)));
         shared = all_shared scene rows xs unposted is;
       });
@@ -310,7 +310,7 @@ is_fabric scene wires xs unposted f are is made =
       none = made.retired;
       retired = (let room = made.retired_room in omega (arith, long, room));
       numbers = all_posts (CanNote scene) xs (whos unposted) 0 unposted (λ k j t e same.
-          can_note scene rows xs t is.nodes (all_at (IsUnposted xs) unposted k t is.unposted e)
+          can_note scene rows xs t is.nodes (all_at (IsUnposted xs) unposted k t is.each e)
           (node_low (length scene.nodes) scene.links t.who
           (all_at (λ (z : PlainOpening). IsThere (length scene.nodes) scene.links z.who) (parties_of scene) k (unposted_name t) (parties_there scene) (opening_at scene unposted k t is.names e))));
     }

@@ -57,12 +57,12 @@ parties_as scene wires openings h =
 
 pub opened_of : (scene : PlainScene) (wires : List (Vec Wire)) (openings : List Opening) (ns : List PlainNodePlan) (ws : List (Vec Wire)) (xs : List Node) (unposted : List Unposted) → IsPlanned scene wires openings → ns ≡ plans_from 0 scene.nodes scene.links → ws ≡ wires
     → AreNodesWith ns (rows_of ws) xs → map unposted_name unposted ≡ map opening_of openings → AllByRecursion (IsUnposted xs) unposted → AreOpened scene (rows_of wires) xs unposted
-opened_of scene wires openings ns ws xs unposted h nodes same opened names unposted = record {
+opened_of scene wires openings ns ws xs unposted h nodes same opened names each = record {
   laws = h.laws;
   nodes = subst (λ ms. AreNodesWith ms (rows_of wires) xs) nodes (subst (λ vs. AreNodesWith ns (rows_of vs) xs) same opened);
   rows = wire_rows scene (rows_of wires) h.count h.are;
   names = names ∙ h.parties;
-  unposted = unposted;
+  each = each;
   apart = named_apart (parties_of scene) h.apart;
 }
 

@@ -59,5 +59,5 @@ pub record IsUnposted (nodes : List Node) (s : Unposted) : Type 0 where
 -- the parties of these openings, each of its node, in a list with just the room for them
 pub record AreUnposted (nodes : List Node) (openings : List Opening) (unposted : Vec Unposted) : Type 0 where
   pub names : map unposted_name unposted.items ≡ map opening_of openings
-  pub unposted : AllByRecursion (IsUnposted nodes) unposted.items
+  pub each : AllByRecursion (IsUnposted nodes) unposted.items
   pub room : vec_capacity unposted ≡ length openings

@@ -26,7 +26,7 @@ returns c =
     let openings = length-map c.args.openings.items opening_of in
     record {
       names = same_names unposted parties (map opening_of c.args.openings.items) c.in_ok-unposted.ensures.same c.in_ok-parties.ensures.parties;
-      unposted = all_unposted c.args.nodes.now c.in_ok-buffers.buffers.items unposted parties (record { regions = buffers.regions; counts = buffers.counts }) c.in_ok-unposted.ensures.same
+      each = all_unposted c.args.nodes.now c.in_ok-buffers.buffers.items unposted parties (record { regions = buffers.regions; counts = buffers.counts }) c.in_ok-unposted.ensures.same
           (rw c.deref.ensures.value at c.in_ok-parties.ensures.opened);
       room = omega (arith, c.in_ok-unposted.ensures.room, many, all, openings);
     }
