@@ -1,15 +1,15 @@
 -- what a step of a node's ports keeps
-use Rattle.std.specs.Prelude.{◌≡◌, ◌≢◌, ◌<◌, ◌≤◌, ℕ, ◌+◌, List, length, IfSome, Some, ⊤}
+use Rattle.std.specs.Prelude.{◌≡◌, ◌≢◌, ◌<◌, ◌≤◌, ℕ, ◌+◌, List, length, Some, ⊤}
 use Rattle.std.specs.List.{All}
 use Rattle.std.specs.Option.{IsSome}
 use Rattle.csp_buffer.specs.Content.{Content}
 use Rattle.csp_base.specs.declared.seat.Seat.{Seat}
-use Rattle.csp_base.specs.declared.limits.TheConstants.{MAX_APPS, SLOTS, ALL_SLOTS}
+use Rattle.csp_base.specs.declared.limits.TheConstants.{MAX_APPS, ALL_SLOTS}
 use Rattle.csp_deck.specs.Keeping.{numbers_of}
 use Rattle.csp_deck.specs.Step.{times}
 use Rattle.csp_ports.specs.Counts.{AreFar}
 use Rattle.csp_ports.specs.Held.{held}
-use Rattle.csp_ports.specs.PlainPorts.{PlainPorts, machine_at, machines_of}
+use Rattle.csp_ports.specs.PlainPorts.{PlainPorts, machine_at, machines_of, stalls}
 use Rattle.csp_ports.specs.declared.task.Task.{Task}
 use Rattle.csp_ports.specs.declared.task.Task.TheVariants as task
 use Rattle.csp_rdp.specs.Balance.{IsWhole}
@@ -39,11 +39,10 @@ IsOwedBy task.Tell time seat p = ⊤
 IsOwedBy task.Deliver time seat p = ((machine_at p seat).state ≡ state.Open) × IsSome (delivery (machine_at p seat))
 IsOwedBy (task.Make j) time seat p = (job_of time (machine_at p seat) ≡ Some j) × (j ≢ job.Deliver)
 
--- there are no more applications than may be; each machine of a slot is whole; and each application has a place for
--- a packet that waits, which is for one of its slots
+-- there are no more applications than may be; each machine of a slot is whole; and no more packets wait than there may be
+-- applications
 pub record AreWhole (p : PlainPorts) : Type 0 where
   pub few : p.conns.apps ≤ MAX_APPS
   pub slots : length p.slots ≡ ALL_SLOTS
   pub machines : All IsWhole (machines_of p)
-  pub places : length p.stalled ≡ MAX_APPS
-  pub waits : All (λ s. IfSome s (λ s. s.slot < SLOTS)) p.stalled
+  pub waits : stalls p.slots ≤ MAX_APPS

@@ -8,11 +8,10 @@ use Rattle.csp_base.specs.Seat.{seat}
 use Rattle.csp_base.specs.declared.limits.TheConstants.{MAX_PAYLOAD, MAX_APPS, SLOTS, ALL_SLOTS}
 use Rattle.csp_conn.specs.PlainConns.{place_of}
 use Rattle.csp_deck.specs.Carried.{IsReply}
-use Rattle.csp_ports.specs.PlainPorts.{PlainPorts, PlainStalled, PortsAt, anywhere, terms_of, waiting}
+use Rattle.csp_ports.specs.PlainPorts.{PlainPorts, PortsAt, anywhere, stalls_of, terms_of, waiting}
 use Rattle.csp_ports.specs.declared.owed.Owed.{Owed}
 use Rattle.csp_ports.specs.declared.ports.Ports.TheInside.{Inside}
 use Rattle.csp_ports.specs.declared.ports.TheConstants.{MAX_OWED, ANSWERS}
-use Rattle.csp_ports.specs.declared.stalled.Stalled.{Stalled}
 use Rattle.csp_ports.specs.declared.terms.SlotState.{SlotState}
 use Rattle.csp_ports.specs.declared.terms.Terms.{Terms}
 use Rattle.csp_ports.specs.declared.terms.Wish.{Wish}
@@ -30,16 +29,15 @@ use Rattle.csp_rdp.specs.Placed.{placed}
 use Rattle.csp_rdp.specs.Regions.{AreAllIn}
 use Rattle.csp_socket.specs.Bound.{owner_of}
 
--- a packet that waits for room, as contracts see it
-abbrev pub stalled_of : Stalled → PlainStalled
-stalled_of s = record { slot = s.slot; buffer = anywhere s.buffer.picture }
+-- what is kept of a slot, as contracts see it: buffers have no region
+abbrev pub plain_slot : SlotState → SlotState
+plain_slot s = record s { machine = option_map (placed nowhere) s.machine; stalled = option_map (λ b. anywhere b.picture) s.stalled }
 
 -- a node's ports as contracts see them
 abbrev pub plain_ports : Inside → PlainPorts
 plain_ports p = record {
   conns = p.conns;
-  slots = map {A = SlotState} (λ s. record s { machine = option_map (placed nowhere) s.machine }) p.slots.items;
-  stalled = map (option_map stalled_of) p.stalled;
+  slots = map plain_slot p.slots.items;
   bound = p.sockets;
   owed = p.owed.items;
   next = p.next;
@@ -82,11 +80,15 @@ pub record IsRoomy (more : ℕ) (p : PortsAt) (trash : PlainPile) : Type 0 where
   pub region : trash.region ≡ p.region
   pub room : length trash.contents + length (held p.ports) + more ≤ trash.room
 
--- a packet that waits for room: for a slot, in a buffer of the region, with room for a head and a checksum
-pub record IsWaiting (name : RegionName) (s : Stalled) : Type 0 where
-  pub slot : s.slot < SLOTS
-  pub region : s.buffer.region ≡ name
-  pub short : length s.buffer.picture.payload ≤ MAX_PAYLOAD - 9
+-- a packet that waits for room: in a buffer of the region, with room for a head and a checksum
+pub record IsWaiting (name : RegionName) (b : PlainBuffer) : Type 0 where
+  pub region : b.region ≡ name
+  pub short : length b.picture.payload ≤ MAX_PAYLOAD - 9
+
+-- what is kept of a slot: its machine, where it has one, holds what it needs alone; and a packet may wait
+pub record IsKept (name : RegionName) (s : SlotState) : Type 0 where
+  pub housed : IfSome s.machine (IsHoused name)
+  pub waits : IfSome s.stalled (IsWaiting name)
 
 -- what the fields of a node's ports keep at every time
 pub record ArePorts (p : Inside) : Type 0 where
@@ -99,9 +101,7 @@ pub record ArePorts (p : Inside) : Type 0 where
   -- and so are answers owed; with those still to come an application has at most one more than it has slots
   pub owed : All (IsOwed p.conns.apps) p.owed.items
   pub due : (app : ℕ) → waiting app p.owed.items + wishes app (terms_of (plain_ports p)) ≤ ANSWERS
-  -- each slot has its place, and its machine, where it has one, holds what it needs alone
+  -- each slot has its place, and an application one packet that waits at most
   pub slots : length p.slots.items ≡ ALL_SLOTS
-  pub housed : All (λ s. IfSome s.machine (IsHoused p.token.name)) p.slots.items
-  -- each application has a place for a packet that waits
-  pub places : length p.stalled ≡ MAX_APPS
-  pub waits : All (λ s. IfSome s (IsWaiting p.token.name)) p.stalled
+  pub kept : All (IsKept p.token.name) p.slots.items
+  pub alone : (app : ℕ) → stalls_of app p.slots.items ≤ 1

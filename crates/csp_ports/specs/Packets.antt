@@ -60,15 +60,15 @@ handing p seat h b time =
     reporting (handing_event r b.trace.tag)
     (then (back_by (back_of row packet) (is_stray row) p) (λ p.
     then (where_machine (has_machine p seat) (went r.state machine_why.Reset seat (after_packet h b.trace.tag packet time r)) p) (λ p.
-    then (dropped seat.app p) (λ p.
-    come (settled time seat.app p)))))
+    then (dropped seat p) (λ p.
+    come (settled time seat p)))))
 
 -- ---- packets of an application, on a reliable connection
 
 -- it is admitted to the window, or waits for room there
 abbrev pub admitting_by : (room : Bool) → PlainPorts → Seat → Content → (time : ℕ) → PlainPorts
 admitting_by true p seat b time = admitted time seat (anywhere b) p
-admitting_by false p seat b time = with_stalled p seat.app (Some (record { slot = seat.slot; buffer = anywhere b }))
+admitting_by false p seat b time = with_stalled p seat (Some (anywhere b))
 
 -- that is reported as sent; where the connection is not open the packet is NoConn
 abbrev pub submitting_in : State → PlainPorts → Seat → Content → (time : ℕ) → Came

@@ -1,13 +1,14 @@
 -- the ports of a node as plain data: its connections, the ports that are bound, and the answers owed to applications
-use Rattle.std.specs.Prelude.{ℕ, ◌+◌, ◌*◌, ◌%◌, ◌==◌, Bool, true, false, Option, None, Some, List, [], ◌∷◌, ◌++◌, map, is_some, unwrap_or, get_or, slice_set, replicate, count_by}
+use Rattle.std.specs.Prelude.{ℕ, ◌+◌, ◌*◌, ◌%◌, ◌==◌, Bool, true, false, Option, None, Some, List, [], ◌∷◌, ◌++◌, map, is_some, unwrap_or, get_or, slice_set, replicate, count_by, take, drop}
 use Rattle.csp_arena.specs.Cells.{RegionName}
+use Rattle.csp_base.specs.Seat.{seat}
 use Rattle.csp_base.specs.declared.seat.Seat.{Seat}
 use Rattle.csp_base.specs.declared.priority.Prio.{Prio}
 use Rattle.csp_base.specs.declared.priority.Prio.TheVariants.{Normal}
 use Rattle.csp_buffer.specs.Content.{Content}
 use Rattle.csp_buffer.specs.PlainBuffer.{PlainBuffer}
 use Rattle.csp_conn.specs.PlainConns.{PlainConns, conns_of, place_of}
-use Rattle.csp_base.specs.declared.limits.TheConstants.{MAX_APPS, ALL_SLOTS}
+use Rattle.csp_base.specs.declared.limits.TheConstants.{SLOTS, ALL_SLOTS}
 use Rattle.csp_deck.specs.Regions.{nowhere}
 use Rattle.csp_log.specs.declared.note.Note.{Note}
 use Rattle.csp_ports.specs.declared.owed.Owed.{Owed}
@@ -20,18 +21,12 @@ use Rattle.csp_rdp.specs.declared.answers.State.{State}
 use Rattle.csp_rdp.specs.declared.answers.State.TheVariants.{Open}
 use Rattle.csp_socket.specs.Bound.{Bound, bound_none}
 
--- a packet of an application that waits for room in the window of a slot's connection
-pub record PlainStalled : Type 0 where
-  pub slot : ℕ
-  pub buffer : PlainBuffer
-
--- the connections; what is kept of each slot besides, in the order of application, then slot; for each application the packet
--- that waits for room in a window; who bound which port; the answers owed to applications, the oldest first; the slot with which
--- the next look for a task begins; and how many reliable connections the node has made
+-- the connections; what is kept of each slot besides, in the order of application, then slot; who bound which port; the answers
+-- owed to applications, the oldest first; the slot with which the next look for a task begins; and how many reliable connections
+-- the node has made
 pub record PlainPorts : Type 0 where
   pub conns : PlainConns
   pub slots : List SlotState
-  pub stalled : List (Option PlainStalled)
   pub bound : Bound
   pub owed : List Owed
   pub next : ℕ
@@ -55,16 +50,15 @@ anywhere b = record { picture = b; region = nowhere }
 abbrev pub fresh : Terms
 fresh = record { prio = Normal; flags = 0; wish = wish.Nothing; is_down = false; ordinal = 0 }
 
--- and what is kept of it: it has no machine
+-- and what is kept of it: it has no machine, and no packet waits
 abbrev pub untouched : SlotState
-untouched = record { terms = fresh; machine = None }
+untouched = record { terms = fresh; machine = None; stalled = None }
 
 -- the ports of so many applications before any of them has asked for something
 abbrev pub ports_of : ℕ → PlainPorts
 ports_of apps = record {
   conns = conns_of apps;
   slots = replicate ALL_SLOTS untouched;
-  stalled = replicate MAX_APPS None;
   bound = bound_none;
   owed = [];
   next = 0;
@@ -83,7 +77,8 @@ waiting app owed = count_by (λ o. o.app == app) owed
 
 -- ---- slots
 
--- what is kept of a slot: a slot with a plain connection, and one that is free, has no machine
+-- what is kept of a slot: its terms; its machine, which a slot with a plain connection, and one that is free, has not; and the
+-- packet that waits for room in its machine's window
 abbrev pub state_at : PlainPorts → Seat → SlotState
 state_at p seat = get_or p.slots (place_of seat) untouched
 
@@ -138,13 +133,25 @@ terms_of p = map (λ s. s.terms) p.slots
 abbrev pub machines_of : PlainPorts → List PlainRdp
 machines_of p = map machine_in p.slots
 
--- the packet of an application that waits for room
-abbrev pub stalled_at : PlainPorts → (app : ℕ) → Option PlainStalled
-stalled_at p app = get_or p.stalled app None
+-- the packet that waits for room in the window of a slot's machine
+abbrev pub stalled_at : PlainPorts → Seat → Option PlainBuffer
+stalled_at p seat = (state_at p seat).stalled
 
--- the ports with another packet of an application that waits for room, or none
-abbrev pub with_stalled : PlainPorts → (app : ℕ) → Option PlainStalled → PlainPorts
-with_stalled p app what = record p { stalled = slice_set p.stalled app what }
+-- the ports with another packet that waits for room at a slot, or none
+abbrev pub with_stalled : PlainPorts → Seat → Option PlainBuffer → PlainPorts
+with_stalled p seat what = record p { slots = slice_set p.slots (place_of seat) (record (state_at p seat) { stalled = what }) }
+
+-- a packet waits at the slot
+abbrev pub has_stalled : SlotState → Bool
+has_stalled s = is_some s.stalled
+
+-- at how many slots a packet waits
+abbrev pub stalls : List SlotState → ℕ
+stalls slots = count_by has_stalled slots
+
+-- and at how many of an application's: one at most, since it is not served meanwhile
+abbrev pub stalls_of : (app : ℕ) → List SlotState → ℕ
+stalls_of app slots = stalls (take SLOTS (drop (place_of (seat app 0)) slots))
 
 -- a connection begins on a slot: its packets are sent with this priority and these flags, and the application waits for this
 abbrev pub begun : PlainPorts → Seat → Prio → (flags : ℕ) → Wish → PlainPorts

@@ -1,8 +1,6 @@
 -- when trying the timers changes nothing
-use Rattle.std.specs.Prelude.{ℕ, ◌*◌, ◌&&◌, not, Bool, false, unwrap_or}
+use Rattle.std.specs.Prelude.{ℕ, ◌*◌, ◌&&◌, not, Bool, is_some}
 use Rattle.std.specs.List.{list_any, range_with_len}
-use Rattle.std.specs.Option.{option_map}
-use Rattle.csp_base.specs.Seat.{seat}
 use Rattle.csp_base.specs.declared.limits.TheConstants.{SLOTS}
 use Rattle.csp_conn.specs.PlainConns.{seat_of}
 use Rattle.csp_ports.specs.PlainPorts.{PlainPorts, is_open, machine_at, stalled_at}
@@ -16,13 +14,13 @@ times_out_at time p k = times_out time (machine_at p (seat_of k))
 abbrev pub any_times_out : ℕ → PlainPorts → Bool
 any_times_out time p = list_any (times_out_at time p) (range_with_len 0 (p.conns.apps * SLOTS))
 
--- the packet of an application is stranded: it waits for a connection that is not open
+-- the packet of a slot, by its place, is stranded: it waits for a connection that is not open
 abbrev pub is_stranded : PlainPorts → ℕ → Bool
-is_stranded p app = unwrap_or (option_map (λ s. not (is_open (machine_at p (seat app s.slot)).state)) (stalled_at p app)) false
+is_stranded p k = is_some (stalled_at p (seat_of k)) && not (is_open (machine_at p (seat_of k)).state)
 
--- some application's does
+-- some slot's is
 abbrev pub any_stranded : PlainPorts → Bool
-any_stranded p = list_any (is_stranded p) (range_with_len 0 p.conns.apps)
+any_stranded p = list_any (is_stranded p) (range_with_len 0 (p.conns.apps * SLOTS))
 
 -- no timer would change its connection, and no packet is stranded
 abbrev pub is_quiet : ℕ → PlainPorts → Bool

@@ -2,7 +2,6 @@
 use Rattle.std.specs.Prelude.{ℕ, ◌*◌, ◌&&◌, not, Bool, true, false, cond, Option, None, Some, unwrap_or, List, [], ◌∷◌}
 use Rattle.std.specs.List.{range_with_len}
 use Rattle.std.specs.Option.{option_map}
-use Rattle.csp_base.specs.Seat.{seat}
 use Rattle.csp_base.specs.declared.seat.Seat.{Seat}
 use Rattle.csp_conn.specs.PlainConns.{seat_of, with_slot}
 use Rattle.csp_base.specs.declared.limits.TheConstants.{SLOTS}
@@ -118,15 +117,14 @@ has_room r = is_open r.state && not (is_full r.send)
 abbrev pub admitted : (time : ℕ) → Seat → PlainBuffer → PlainPorts → PlainPorts
 admitted time seat b p = with_machine p seat (admitting b time (machine_at p seat))
 
--- an application's waiting packet is admitted where there is room now
-abbrev pub settled : (time app : ℕ) → PlainPorts → PlainPorts
-settled time app p =
-    unwrap_or (option_map (λ s. cond (has_room (machine_at p (seat app s.slot))) (admitted time (seat app s.slot) s.buffer (with_stalled p app None)) p) (stalled_at p app)) p
+-- the packet that waits at a slot is admitted where there is room now
+abbrev pub settled : (time : ℕ) → Seat → PlainPorts → PlainPorts
+settled time seat p = unwrap_or (option_map (λ b. cond (has_room (machine_at p seat)) (admitted time seat b (with_stalled p seat None)) p) (stalled_at p seat)) p
 
--- an application's waiting packet is discarded as NoConn where its connection is not open any more
-abbrev pub dropped : (app : ℕ) → PlainPorts → Came
-dropped app p =
-    unwrap_or (option_map (λ s. cond (is_open (machine_at p (seat app s.slot)).state) (come p) (discarding why.NoConn s.buffer.picture (with_stalled p app None))) (stalled_at p app)) (come p)
+-- the packet that waits at a slot is discarded as NoConn where the connection is not open any more
+abbrev pub dropped : Seat → PlainPorts → Came
+dropped seat p =
+    unwrap_or (option_map (λ b. cond (is_open (machine_at p seat).state) (come p) (discarding why.NoConn b.picture (with_stalled p seat None))) (stalled_at p seat)) (come p)
 
 -- ---- the timers
 
@@ -141,11 +139,11 @@ abbrev pub timed_in : (time : ℕ) → List ℕ → PlainPorts → Came
 timed_in time [] p = come p
 timed_in time (k ∷ ks) p = then (timed_at time (seat_of k) p) (timed_in time ks)
 
--- the packets of several applications that wait for a connection which is not open any more are discarded
-abbrev pub dropped_of : List ℕ → PlainPorts → Came
-dropped_of [] p = come p
-dropped_of (app ∷ apps) p = then (dropped app p) (dropped_of apps)
+-- the packets that wait at several slots, by their places, for a connection which is not open any more are discarded
+abbrev pub dropped_in : List ℕ → PlainPorts → Came
+dropped_in [] p = come p
+dropped_in (k ∷ ks) p = then (dropped (seat_of k) p) (dropped_in ks)
 
 -- all timers are tried, in the order of application, then slot; then the packets are discarded that wait in vain
 abbrev pub timed : (time : ℕ) → PlainPorts → Came
-timed time p = then (timed_in time (range_with_len 0 (p.conns.apps * SLOTS)) p) (λ p. dropped_of (range_with_len 0 p.conns.apps) p)
+timed time p = then (timed_in time (range_with_len 0 (p.conns.apps * SLOTS)) p) (λ p. dropped_in (range_with_len 0 (p.conns.apps * SLOTS)) p)

@@ -80,7 +80,7 @@ without_packet seat p = with_machine p seat (without_delivery (machine_at p seat
 abbrev pub delivered : (time : ℕ) → Seat → PlainPorts → Came
 delivered time seat p =
     let r = machine_at p seat in
-    then (went r.state machine_why.Reset seat (delivering time r) p) (dropped seat.app)
+    then (went r.state machine_why.Reset seat (delivering time r) p) (dropped seat)
 
 -- a slot's packet, whose lane had no room, is kept again
 abbrev pub kept_again : Seat → Content → PlainPorts → PlainPorts

@@ -24,7 +24,7 @@ ghost use Rattle.csp_rdp.specs.Regions.{IsIn};
 ghost use Rattle.csp_rdp.specs.Table.{back_of, after_packet, is_stray, row_of};
 ghost use Rattle.csp_rdp.specs.declared.answers.Cause.TheVariants as machine_why;
 ghost use Rattle.csp_ports.specs.Packets.{accepted, admitting_by, handing, handing_event, invited, stray_events, submitting};
-ghost use Rattle.csp_ports.specs.PlainPorts.{anywhere, begun, has_machine, machine_at, start_of, stalled_at, terms_at, terms_of, waiting, with_ports_at};
+ghost use Rattle.csp_ports.specs.PlainPorts.{anywhere, begun, has_machine, machine_at, start_of, stalls_of, terms_at, terms_of, waiting, with_ports_at};
 ghost use Rattle.csp_ports.specs.Steps.{has_room, stepped, where_machine};
 
 use crate::flows::OwnFlows;
@@ -131,8 +131,8 @@ impl Ports {
         self.whole();
         let change = self.hand_machine(seat, head, packet, now, trash, report);
         self.change(change, seat, trash, report);
-        self.drop_stalled(seat.app, trash, report);
-        self.settle(seat.app, now);
+        self.drop_stalled(seat, trash, report);
+        self.settle(seat, now);
     }
 
     /// The machine of a slot is handed a packet. What it hands back joins the trash before what it does not
@@ -179,7 +179,7 @@ impl Ports {
         requires there { IsThere self.old.ports.conns seat }
         requires of_it { packet.region ≡ self.old.region }
         requires short { length packet.picture.payload ≤ MAX_PAYLOAD - 9 }
-        requires first { stalled_at self.old.ports seat.app ≡ None }
+        requires first { stalls_of seat.app self.old.ports.slots ≡ 0 }
         requires roomy { IsRoomy 1 self.old trash.old }
         requires countable { IsCountable self.old.ports }
         requires report { report.old.items ≡ [] }
@@ -202,7 +202,7 @@ impl Ports {
         requires there { IsThere self.old.ports.conns seat }
         requires of_it { packet.region ≡ self.old.region }
         requires short { length packet.picture.payload ≤ MAX_PAYLOAD - 9 }
-        requires first { stalled_at self.old.ports seat.app ≡ None }
+        requires first { stalls_of seat.app self.old.ports.slots ≡ 0 }
         requires countable { IsCountable self.old.ports }
         requires report { report.old.items ≡ [] }
         ensures ports { self.new ≡ with_ports_at self.old (admitting_by (has_room (machine_at self.old.ports seat)) self.old.ports seat packet.picture now) }

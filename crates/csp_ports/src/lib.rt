@@ -10,7 +10,6 @@ mod laws;
 mod owed;
 mod ports;
 mod request;
-mod stalled;
 mod steps;
 mod task;
 mod tasks;

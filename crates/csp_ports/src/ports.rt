@@ -1,6 +1,6 @@
 //! What a node keeps of its ports.
 
-ghost use Rattle.std.specs.Prelude.{◌≡◌, ◌+◌, ◌*◌, ◌<◌, ◌≤◌, ℕ, None, Some, IfOk, IfSome, [], length, slice_get, replicate, is_some, vec_capacity};
+ghost use Rattle.std.specs.Prelude.{◌≡◌, ◌+◌, ◌*◌, ◌<◌, ◌≤◌, ℕ, None, Some, IfOk, IfSome, [], length, slice_get, replicate, vec_capacity};
 ghost use Rattle.std.specs.List.{All};
 ghost use Rattle.std.specs.Option.{option_map};
 ghost use Rattle.std.specs.VecDeque.{deque_capacity};
@@ -11,13 +11,12 @@ ghost use Rattle.csp_ports.specs.Counts.{AreFar};
 ghost use Rattle.csp_ports.specs.Held.{held};
 ghost use Rattle.csp_ports.specs.Keeps.{AreWhole};
 ghost use Rattle.csp_ports.specs.Kept.{IsOwed, wished, wishes};
-ghost use Rattle.csp_ports.specs.PlainPorts.{machine_at, owing, ports_of, stalled_at, state_at, terms_at, terms_of, untouched, waiting, with_ports_at, with_terms};
+ghost use Rattle.csp_ports.specs.PlainPorts.{machine_at, owing, ports_of, stalls_of, state_at, terms_at, terms_of, untouched, waiting, with_ports_at, with_terms};
 ghost use Rattle.csp_deck.specs.Regions.{nowhere};
 ghost use Rattle.csp_rdp.specs.Placed.{placed};
 ghost use Rattle.csp_socket.specs.Bound.{owner_of};
 
 use crate::owed::Owed;
-use crate::stalled::Stalled;
 use crate::terms::{SlotState, Terms};
 use csp_arena::RegionToken;
 use csp_base::{ALL_SLOTS, MAX_APPS, Port, SLOTS, Seat};
@@ -48,7 +47,6 @@ pub struct Ports {
     pub(crate) apps: u8,
     pub(crate) conns: Conns,
     pub(crate) slots: Vec<SlotState>,
-    pub(crate) stalled: [Option<Stalled>; MAX_APPS],
     pub(crate) sockets: Sockets,
     pub(crate) owed: VecDeque<Owed>,
     pub(crate) next: usize,
@@ -84,7 +82,6 @@ impl Ports {
             apps,
             conns: Conns::new(apps),
             slots,
-            stalled: [None, None, None, None],
             sockets: Sockets::new(),
             owed,
             next: 0,
@@ -124,10 +121,7 @@ impl Ports {
         requires { IsThere self.now.ports.conns seat }
         ensures { result ≡ (machine_at self.now.ports seat).state }
     {
-        match self.machine(seat) {
-            Some(machine) => machine.state(),
-            None => State::Closed,
-        }
+        self.slots[place(seat)].state()
     }
 
     /// The seat that has this connection.
@@ -153,12 +147,14 @@ impl Ports {
         self.owed.iter().filter(|owed| owed.app == app).count()
     }
 
-    /// Whether a packet of an application waits for room.
-    pub fn is_stalled(&self, app: u8) -> bool
+    /// How many packets of an application wait for room.
+    pub fn stalled(&self, app: u8) -> usize
         requires { app < self.now.ports.conns.apps }
-        ensures { result ≡ is_some (stalled_at self.now.ports app) }
+        ensures { result ≡ stalls_of app self.now.ports.slots }
     {
-        self.stalled[app as usize].is_some()
+        let first = place(Seat { app, slot: 0 });
+        let slots = self.slots.iter().skip(first).take(SLOTS);
+        slots.filter(|slot| slot.stalled.is_some()).count()
     }
 
     /// The answer that is to be pushed first.
@@ -169,7 +165,7 @@ impl Ports {
         self.owed.front().copied()
     }
 
-    /// Each machine of a slot is whole, and each application has a place for a packet that waits.
+    /// Each machine of a slot is whole, and no more packets wait than there may be applications.
     pub(crate) fn whole(&self)
         ensures { AreWhole self.now.ports }
     {
@@ -215,10 +211,7 @@ fn open_slots(alloc: Global) -> Result<Vec<SlotState>, AllocError>
 {
     let mut slots = Vec::with_capacity(alloc, ALL_SLOTS)?;
     for _ in 0..ALL_SLOTS {
-        slots.push_reserved(SlotState {
-            terms: Terms::fresh(),
-            machine: None,
-        });
+        slots.push_reserved(SlotState::untouched());
     }
     Ok(slots)
 }

@@ -2,8 +2,7 @@
 
 ghost use Rattle.std.specs.Prelude.{◌≡◌, not, ◌+◌, ◌-◌, ◌*◌, ◌^◌, ◌<◌, ◌≤◌, ℕ, [], ◌∷◌, ◌++◌, length, None, Some, IfSome};
 ghost use Rattle.std.specs.List.{range_with_len};
-ghost use Rattle.std.specs.Option.{option_map};
-ghost use Rattle.csp_base.specs.Seat.{seat};
+ghost use Rattle.std.specs.Option.{option_map, option_to_list};
 ghost use Rattle.csp_conn.specs.PlainConns.{IsThere};
 ghost use Rattle.csp_deck.specs.Keeping.{with_contents};
 ghost use Rattle.csp_deck.specs.Regions.{nowhere};
@@ -11,11 +10,11 @@ ghost use Rattle.csp_log.specs.declared.event.Discard.TheVariants as why;
 ghost use Rattle.csp_log.specs.declared.event.Event.TheVariants as event;
 ghost use Rattle.csp_log.specs.declared.event.TheConstants.{MAX_EVENTS};
 ghost use Rattle.csp_ports.specs.Came.{Comes, at_work, discarding, pictures};
-ghost use Rattle.csp_ports.specs.Held.{held, stalled_buffers};
+ghost use Rattle.csp_ports.specs.Held.{held};
 ghost use Rattle.csp_ports.specs.Keeps.{Keeps, at_hand};
-ghost use Rattle.csp_ports.specs.Kept.{Admits, IsHoused, IsRoomy, IsWaiting, stalled_of, wished, wishes};
-ghost use Rattle.csp_ports.specs.PlainPorts.{anywhere, machine_at, stalled_at, terms_at, terms_of, with_stalled, with_ports_at};
-ghost use Rattle.csp_ports.specs.Steps.{admitted, changed, closed, connected, dropped, dropped_of, freed, has_room, reason_of, refused, replaced, settled, timed, timed_at, timed_in};
+ghost use Rattle.csp_ports.specs.Kept.{Admits, IsHoused, IsRoomy, IsWaiting, wished, wishes};
+ghost use Rattle.csp_ports.specs.PlainPorts.{anywhere, machine_at, stalled_at, stalls, stalls_of, terms_at, terms_of, with_stalled, with_ports_at};
+ghost use Rattle.csp_ports.specs.Steps.{admitted, changed, closed, connected, dropped, dropped_in, freed, has_room, reason_of, refused, replaced, settled, timed, timed_at, timed_in};
 ghost use Rattle.csp_ports.specs.Counts.{IsCountable};
 ghost use Rattle.csp_rdp.specs.Balance.{IsWhole};
 ghost use Rattle.csp_rdp.specs.Changes.{change_between};
@@ -28,7 +27,6 @@ ghost use Rattle.csp_rdp_window.specs.Sending.{is_full};
 ghost use Rattle.csp_rdp.specs.declared.answers.Cause.TheVariants as machine_why;
 
 use crate::ports::Ports;
-use crate::stalled::{Stalled, put};
 use crate::terms::Wish;
 use csp_base::{MAX_APPS, MAX_PAYLOAD, SLOTS, Seat};
 use csp_buffer::Buffer;
@@ -179,12 +177,13 @@ impl Ports {
     fn drop_all(&mut self, trash: &mut Pile, report: &mut Events)
         requires roomy { IsRoomy 0 self.old trash.old }
         requires report { report.old.items ≡ [] }
-        ensures comes { Comes (at_work self.old trash.old report.old.items) (at_work self.new trash.new report.new.items) (dropped_of (range_with_len 0 self.old.ports.conns.apps) self.old.ports) }
+        ensures comes { Comes (at_work self.old trash.old report.old.items) (at_work self.new trash.new report.new.items) (dropped_in (range_with_len 0 (self.old.ports.conns.apps * SLOTS)) self.old.ports) }
         ensures few { length report.new.items ≤ MAX_APPS }
         ensures apps { self.new.ports.conns.apps ≡ self.old.ports.conns.apps }
     {
-        for app in 0..self.apps {
-            self.drop_stalled(app, trash, report);
+        for at in 0..self.slot_count() {
+            let seat = self.seat_at(at);
+            self.drop_stalled(seat, trash, report);
         }
     }
 
@@ -364,78 +363,49 @@ impl Ports {
         spend(old, trash);
     }
 
-    /// The packet of an application that waits for room is discarded where its connection is not open.
-    pub(crate) fn drop_stalled(&mut self, app: u8, trash: &mut Pile, report: &mut Events)
-        requires app { app < self.old.ports.conns.apps }
+    /// The packet that waits at a slot is discarded where the connection is not open.
+    pub(crate) fn drop_stalled(&mut self, seat: Seat, trash: &mut Pile, report: &mut Events)
+        requires there { IsThere self.old.ports.conns seat }
         requires roomy { IsRoomy 0 self.old trash.old }
         requires report { length report.old.items < MAX_EVENTS }
-        ensures comes { Comes (at_work self.old trash.old report.old.items) (at_work self.new trash.new report.new.items) (dropped app self.old.ports) }
+        ensures comes { Comes (at_work self.old trash.old report.old.items) (at_work self.new trash.new report.new.items) (dropped seat self.old.ports) }
         ensures roomy { IsRoomy 0 self.new trash.new }
+        ensures few { length report.new.items + stalls self.new.ports.slots ≤ length report.old.items + stalls self.old.ports.slots }
         ensures report { length report.new.items ≤ length report.old.items + 1 }
         ensures apps { self.new.ports.conns.apps ≡ self.old.ports.conns.apps }
     {
-        match self.stalled_seat(app) {
-            Some(seat) if self.state(seat) != State::Open => {
-                self.discard_stalled(app, trash, report);
-            }
-            _ => {}
+        if self.state(seat) == State::Open {
+            return;
         }
-    }
-
-    /// The seat for whose window the packet of an application waits.
-    pub(crate) fn stalled_seat(&self, app: u8) -> Option<Seat>
-        requires app { app < self.now.ports.conns.apps }
-        ensures seat { result ≡ option_map (λ s. seat app s.slot) (stalled_at self.now.ports app) }
-        ensures there { IfSome result (λ seat. IsThere self.now.ports.conns seat) }
-    {
-        match &self.stalled[app as usize] {
-            Some(stalled) => Some(Seat {
-                app,
-                slot: stalled.slot,
-            }),
-            None => None,
-        }
-    }
-
-    /// The packet of an application that waits for room is discarded.
-    fn discard_stalled(&mut self, app: u8, trash: &mut Pile, report: &mut Events)
-        requires app { app < self.old.ports.conns.apps }
-        requires roomy { IsRoomy 0 self.old trash.old }
-        requires report { length report.old.items < MAX_EVENTS }
-        ensures comes { IfSome (stalled_at self.old.ports app) (λ s. Comes (at_work self.old trash.old report.old.items) (at_work self.new trash.new report.new.items) (discarding why.NoConn s.buffer.picture (with_stalled self.old.ports app None))) }
-        ensures roomy { IsRoomy 0 self.new trash.new }
-        ensures few { length report.new.items ≤ length report.old.items + 1 }
-        ensures apps { self.new.ports.conns.apps ≡ self.old.ports.conns.apps }
-    {
-        if let Some(stalled) = self.take_stalled(app) {
+        if let Some(packet) = self.take_stalled(seat) {
             report.push(Event::Discarded(Discard::NoConn));
-            trash.add(stalled.into_buffer());
+            trash.add(packet);
         }
     }
 
-    /// Takes out the packet of an application that waits for room.
-    fn take_stalled(&mut self, app: u8) -> Option<Stalled>
-        requires app { app < self.old.ports.conns.apps }
-        ensures stalled { option_map stalled_of result ≡ stalled_at self.old.ports app }
-        ensures ports { self.new ≡ with_ports_at self.old (with_stalled self.old.ports app None) }
+    /// Takes out the packet that waits at a slot. Then none of its application's waits.
+    fn take_stalled(&mut self, seat: Seat) -> Option<Buffer>
+        requires there { IsThere self.old.ports.conns seat }
+        ensures stalled { option_map (λ b. anywhere b.picture) result ≡ stalled_at self.old.ports seat }
+        ensures ports { self.new ≡ with_ports_at self.old (with_stalled self.old.ports seat None) }
         ensures waits { IfSome result (IsWaiting self.old.region) }
-        ensures size { length (held self.new.ports) + length (stalled_buffers (stalled_at self.old.ports app)) ≡ length (held self.old.ports) }
+        ensures none { IfSome result (λ b. stalls_of seat.app self.new.ports.slots ≡ 0) }
+        ensures size { length (held self.new.ports) + length (option_to_list (stalled_at self.old.ports seat)) ≡ length (held self.old.ports) }
+        ensures few { stalls self.new.ports.slots + length (option_to_list (stalled_at self.old.ports seat)) ≡ stalls self.old.ports.slots }
     {
-        self.stalled[app as usize].take()
+        self.slots[place(seat)].stalled.take()
     }
 
-    /// The packet of an application that waits for room is admitted where there is some.
-    pub(crate) fn settle(&mut self, app: u8, now: u64)
-        requires app { app < self.old.ports.conns.apps }
+    /// The packet that waits at a slot is admitted where there is room.
+    pub(crate) fn settle(&mut self, seat: Seat, now: u64)
+        requires there { IsThere self.old.ports.conns seat }
         requires countable { IsCountable self.old.ports }
-        ensures ports { self.new ≡ with_ports_at self.old (settled now app self.old.ports) }
+        ensures ports { self.new ≡ with_ports_at self.old (settled now seat self.old.ports) }
     {
-        if let Some(stalled) = self.take_stalled(app) {
-            let Stalled { slot, buffer } = stalled;
-            let seat = Seat { app, slot };
-            if let Err(buffer) = self.admit(seat, buffer, now) {
-                self.stall(seat, buffer);
-            }
+        if let Some(packet) = self.take_stalled(seat)
+            && let Err(packet) = self.admit(seat, packet, now)
+        {
+            self.stall(seat, packet);
         }
     }
 
@@ -453,15 +423,25 @@ impl Ports {
         admit(machine, buffer, now)
     }
 
-    /// A packet of an application waits for room in a slot's window, where none waits.
-    pub(crate) fn stall(&mut self, seat: Seat, buffer: Buffer)
+    /// A packet of an application waits for room in a slot's window, where none of the application's waits.
+    pub(crate) fn stall(&mut self, seat: Seat, packet: Buffer)
         requires there { IsThere self.old.ports.conns seat }
-        requires of_it { buffer.region ≡ self.old.region }
-        requires short { length buffer.picture.payload ≤ MAX_PAYLOAD - 9 }
-        requires none { stalled_at self.old.ports seat.app ≡ None }
-        ensures { self.new ≡ with_ports_at self.old (with_stalled self.old.ports seat.app (Some (record { slot = seat.slot; buffer = anywhere buffer.picture }))) }
+        requires of_it { packet.region ≡ self.old.region }
+        requires short { length packet.picture.payload ≤ MAX_PAYLOAD - 9 }
+        requires none { stalls_of seat.app self.old.ports.slots ≡ 0 }
+        ensures { self.new ≡ with_ports_at self.old (with_stalled self.old.ports seat (Some (anywhere packet.picture))) }
     {
-        let Seat { app, slot } = seat;
-        put(&mut self.stalled[app as usize], Stalled { slot, buffer });
+        put(&mut self.slots[place(seat)].stalled, packet);
+    }
+}
+
+/// Puts a packet where none waits.
+fn put(place: &mut Option<Buffer>, packet: Buffer)
+    requires { place.old ≡ None }
+    ensures { place.new ≡ Some packet }
+{
+    match place.replace(packet) {
+        None => {}
+        Some(_) => unreachable!(),
     }
 }

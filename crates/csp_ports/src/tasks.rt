@@ -203,7 +203,7 @@ impl Ports {
         };
         let change = deliver(machine, now, trash);
         self.change(change, seat, trash, report);
-        self.drop_stalled(seat.app, trash, report);
+        self.drop_stalled(seat, trash, report);
     }
 
     /// The packet that was taken out could not be delivered: it is kept again.

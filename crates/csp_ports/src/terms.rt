@@ -1,15 +1,13 @@
 //! What a node keeps of a slot besides its connection.
 
-ghost use Rattle.std.specs.Prelude.{◌≡◌, ◌<◌, [], ◌∷◌, MatchOption, None, nat_lt};
-ghost use Rattle.std.specs.Option.{option_map};
+ghost use Rattle.std.specs.Prelude.{◌≡◌, ◌<◌, [], ◌∷◌, MatchOption, map, nat_lt};
 ghost use Rattle.csp_deck.specs.Step.{times};
-ghost use Rattle.csp_ports.specs.Held.{slot_buffers};
-ghost use Rattle.csp_ports.specs.PlainPorts.{fresh, is_closing, machine_in};
-ghost use Rattle.csp_rdp.specs.Holding.{rdp_numbers, taken_out};
+ghost use Rattle.csp_ports.specs.Held.{handed_out, slot_buffers};
+ghost use Rattle.csp_ports.specs.PlainPorts.{fresh, is_closing, machine_in, untouched};
 
 use csp_base::Prio;
 use csp_buffer::Buffer;
-use csp_rdp::Rdp;
+use csp_rdp::{Rdp, State};
 
 /// What an application waits for at a slot.
 #[derive(Clone, Copy)]
@@ -69,37 +67,75 @@ pub struct SlotState {
     pub terms: Terms,
     /// The machine of its reliable connection, where it has one: a plain one, and a slot that is free, has none.
     pub machine: Option<Rdp>,
+    /// The packet of its application that waits for room in the machine's window.
+    pub stalled: Option<Buffer>,
 }
 
 impl SlotState {
-    /// Whether its machine holds the buffer of this number.
-    pub(crate) fn holds(&self, number: u16) -> bool
-        ensures { result ≡ nat_lt 0 (times number (rdp_numbers (machine_in self.now))) }
+    /// A slot before its first connection.
+    pub(crate) fn untouched() -> SlotState
+        ensures { result ≡ untouched }
     {
+        SlotState {
+            terms: Terms::fresh(),
+            machine: None,
+            stalled: None,
+        }
+    }
+
+    /// The state of its reliable connection: without one it is closed.
+    pub(crate) fn state(&self) -> State
+        ensures { result ≡ (machine_in self.now).state }
+    {
+        match &self.machine {
+            Some(machine) => machine.state(),
+            None => State::Closed,
+        }
+    }
+
+    /// Whether it holds the buffer of this number: the packet that waits, or one of its machine's.
+    pub(crate) fn holds(&self, number: u16) -> bool
+        ensures { result ≡ nat_lt 0 (times number (map (λ b. b.picture.number) (slot_buffers self.now))) }
+    {
+        if let Some(packet) = &self.stalled
+            && packet.number() == number
+        {
+            return true;
+        }
         match &self.machine {
             Some(machine) => machine.holds(number),
             None => false,
         }
     }
 
-    /// Takes out the first buffer that its machine holds.
+    /// Takes out the first buffer that it holds: the packet that waits, or else the machine's first.
     pub(crate) fn take_out(&mut self) -> Option<Buffer>
         ensures buffers { MatchOption result ((slot_buffers self.old ≡ []) × (self.new ≡ self.old)) (λ b. slot_buffers self.old ≡ b ∷ slot_buffers self.new) }
-        ensures state { self.new ≡ record self.old { machine = option_map taken_out self.old.machine } }
+        ensures state { self.new ≡ handed_out self.old.stalled self.old }
     {
+        if let Some(packet) = self.stalled.take() {
+            return Some(packet);
+        }
         match &mut self.machine {
             Some(machine) => machine.take_out(),
             None => None,
         }
     }
 
-    /// Ends a slot whose machine holds no buffer.
+    /// Ends a slot that holds no buffer.
     pub(crate) fn end(self)
-        requires { rdp_numbers (machine_in self) ≡ [] }
+        requires { slot_buffers self ≡ [] }
     {
-        let SlotState { terms: _, machine } = self;
+        let SlotState {
+            terms: _,
+            machine,
+            stalled,
+        } = self;
         if let Some(machine) = machine {
             machine.end();
+        }
+        if let Some(_packet) = stalled {
+            unreachable!();
         }
     }
 }

@@ -58,22 +58,20 @@ impl Ports {
     fn any_stranded(&self) -> bool
         ensures { result ≡ any_stranded self.now.ports }
     {
-        for app in 0..self.apps {
-            if self.is_stranded(app) {
+        for at in 0..self.slot_count() {
+            if self.is_stranded(at) {
                 return true;
             }
         }
         false
     }
 
-    /// Whether the packet of an application waits for a connection that is not open.
-    fn is_stranded(&self, app: u8) -> bool
-        requires { app < self.now.ports.conns.apps }
-        ensures { result ≡ is_stranded self.now.ports app }
+    /// Whether the packet of the slot at a place waits for a connection that is not open.
+    fn is_stranded(&self, at: usize) -> bool
+        requires { at < ALL_SLOTS }
+        ensures { result ≡ is_stranded self.now.ports at }
     {
-        match self.stalled_seat(app) {
-            Some(seat) => self.state(seat) != State::Open,
-            None => false,
-        }
+        let slot = &self.slots[at];
+        slot.stalled.is_some() && slot.state() != State::Open
     }
 }

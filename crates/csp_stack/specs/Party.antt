@@ -17,7 +17,7 @@ use Rattle.csp_base.specs.declared.seat.Seat.{Seat}
 use Rattle.csp_conn.specs.PlainConns.{IsThere}
 use Rattle.csp_ports.specs.Counts.{greatest}
 use Rattle.csp_ports.specs.Held.{held}
-use Rattle.csp_ports.specs.PlainPorts.{machine_at, stalled_at, waiting}
+use Rattle.csp_ports.specs.PlainPorts.{machine_at, stalls_of, waiting}
 use Rattle.csp_rdp.specs.Jobs.{job_of}
 use Rattle.csp_rdp.specs.declared.answers.State.TheVariants.{Open}
 use Rattle.csp_rdp.specs.declared.jobs.Job.TheVariants.{Deliver}
@@ -98,7 +98,7 @@ HasPlace plan.Rest s = s.early ≡ []
 HasPlace plan.Give s = length s.trash + length (held s.ports) < TRASH_ROOM
 HasPlace (plan.Push _ _) s = IsClear s
 HasPlace plan.Hear s = IsClear s
-HasPlace (plan.Serve k) s = IsClear s × (waiting k s.ports.owed ≡ 0) × (stalled_at s.ports k ≡ None)
+HasPlace (plan.Serve k) s = IsClear s × (waiting k s.ports.owed ≡ 0) × (stalls_of k s.ports.slots ≡ 0)
 HasPlace (plan.Reply _) s = IsClear s
 HasPlace (plan.Tell seat) s = IsClear s × IsThere s.ports.conns seat
 HasPlace (plan.Deliver seat) s = IsClear s × IsThere s.ports.conns seat × IsDelivering s seat

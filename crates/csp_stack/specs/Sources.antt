@@ -2,7 +2,7 @@
 use Rattle.std.specs.Prelude.{ℕ, ◌+◌, ◌-◌, ◌==◌, ◌&&◌, not, Bool, true, false, cond, nat_le, List, [], ◌∷◌, ◌++◌, Option, None, Some, find, is_some}
 use Rattle.std.specs.List.{range_with_len}
 use Rattle.csp_base.specs.declared.seat.Seat.{Seat}
-use Rattle.csp_ports.specs.PlainPorts.{stalled_at, waiting}
+use Rattle.csp_ports.specs.PlainPorts.{stalls_of, waiting}
 use Rattle.csp_ports.specs.Tasks.{next_task}
 use Rattle.csp_ports.specs.declared.owed.Owed.{Owed}
 use Rattle.csp_ports.specs.declared.task.Task.{Task}
@@ -27,7 +27,7 @@ has_jobs [] None = false
 -- the inbox always has work; an application has some unless an answer to it waits to be pushed, or a packet of it for room in a window
 abbrev pub has_work : State → ℕ → Source → Bool
 has_work s time source.Inbox = true
-has_work s time (source.App k) = (waiting k s.ports.owed == 0) && not (is_some (stalled_at s.ports k))
+has_work s time (source.App k) = (waiting k s.ports.owed == 0) && (stalls_of k s.ports.slots == 0)
 has_work s time source.Jobs = has_jobs s.ports.owed (next_task time s.ports)
 
 -- the places once round in a circle, from the cursor on

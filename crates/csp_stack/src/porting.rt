@@ -9,7 +9,7 @@ ghost use Rattle.csp_ports.specs.Asking.{answered, close, connect};
 ghost use Rattle.csp_ports.specs.Counts.{AreFar, IsCountable};
 ghost use Rattle.csp_ports.specs.Held.{held};
 ghost use Rattle.csp_ports.specs.Packets.{accepted, handing, invited, submitting};
-ghost use Rattle.csp_ports.specs.PlainPorts.{stalled_at, waiting};
+ghost use Rattle.csp_ports.specs.PlainPorts.{stalls_of, waiting};
 ghost use Rattle.csp_ports.specs.Tasks.{delivered};
 ghost use Rattle.csp_rdp_header.specs.declared.options.TheConstants.{MAX_WINDOW};
 ghost use Rattle.csp_stack.specs.Comes.{ComesTo, IsServing};
@@ -111,7 +111,7 @@ impl State {
         requires there { IsThere self.old.state.ports.conns seat }
         requires of_it { packet.region ≡ self.old.region }
         requires short { length packet.picture.payload ≤ MAX_PAYLOAD - 9 }
-        requires alone { stalled_at self.old.state.ports seat.app ≡ None }
+        requires alone { stalls_of seat.app self.old.state.ports.slots ≡ 0 }
         requires room { length self.old.state.trash + length (held self.old.state.ports) < TRASH_ROOM }
         requires countable { IsCountable self.old.state.ports }
         requires unwritten { report.old.items ≡ [] }

@@ -8,7 +8,7 @@ ghost use Rattle.csp_deck.specs.Step.{item_numbers};
 ghost use Rattle.csp_log.specs.Pictures.{shown_item};
 ghost use Rattle.csp_ports.specs.Asking.{bind};
 ghost use Rattle.csp_ports.specs.Counts.{IsCountable};
-ghost use Rattle.csp_ports.specs.PlainPorts.{stalled_at, waiting};
+ghost use Rattle.csp_ports.specs.PlainPorts.{stalls_of, waiting};
 ghost use Rattle.csp_stack.specs.Comes.{ComesTo, IsServing};
 ghost use Rattle.csp_stack.specs.Keeps.{Keeps};
 ghost use Rattle.csp_stack.specs.Party.{IsFrom, IsSendable};
@@ -34,7 +34,7 @@ pub fn serve(facts: &Facts, state: &mut State, now: u64, app: u8, item: Item, re
     requires of_it { IsItemOf state.old.region item }
     requires from { IsFrom facts.now app (shown_item item) }
     requires first { waiting app state.old.state.ports.owed ≡ 0 }
-    requires alone { stalled_at state.old.state.ports app ≡ None }
+    requires alone { stalls_of app state.old.state.ports.slots ≡ 0 }
     requires countable { IsCountable state.old.state.ports }
     ensures told { ComesTo state.old state.new report.old.items report.new.items (served facts.now state.old.state now app (shown_item item)) }
     ensures sendable { IsSendable facts.now state.new.state.out }
@@ -63,7 +63,7 @@ fn serve_packet(
     requires unwritten { report.old.items ≡ [] }
     requires of_it { buffer.region ≡ state.old.region }
     requires from { IsFrom facts.now seat.app (ItemShown.Packet seat.slot buffer.picture) }
-    requires alone { stalled_at state.old.state.ports seat.app ≡ None }
+    requires alone { stalls_of seat.app state.old.state.ports.slots ≡ 0 }
     requires countable { IsCountable state.old.state.ports }
     ensures told { ComesTo state.old state.new report.old.items report.new.items (by_mark (seat.slot == UNMARKED) (router facts.now state.old.state) seat now buffer.picture) }
     ensures sendable { IsSendable facts.now state.new.state.out }
@@ -90,7 +90,7 @@ fn serve_slot(
     requires of_it { buffer.region ≡ state.old.region }
     requires there { IsThere state.old.state.ports.conns seat }
     requires room { length buffer.picture.payload ≤ MAX_DATA }
-    requires alone { stalled_at state.old.state.ports seat.app ≡ None }
+    requires alone { stalls_of seat.app state.old.state.ports.slots ≡ 0 }
     requires countable { IsCountable state.old.state.ports }
     ensures told { ComesTo state.old state.new report.old.items report.new.items (by_slot (slot_at state.old.state.ports.conns seat) (router facts.now state.old.state) seat now buffer.picture) }
     ensures sendable { IsSendable facts.now state.new.state.out }
@@ -119,7 +119,7 @@ fn serve_connection(
     requires of_it { buffer.region ≡ state.old.region }
     requires there { IsThere state.old.state.ports.conns seat }
     requires room { length buffer.picture.payload ≤ MAX_DATA }
-    requires alone { stalled_at state.old.state.ports seat.app ≡ None }
+    requires alone { stalls_of seat.app state.old.state.ports.slots ≡ 0 }
     requires countable { IsCountable state.old.state.ports }
     ensures told { ComesTo state.old state.new report.old.items report.new.items (on_connection connection (router facts.now state.old.state) seat now buffer.picture) }
     ensures sendable { IsSendable facts.now state.new.state.out }

@@ -10,7 +10,7 @@ ghost use Rattle.csp_ports.specs.Asking.{answered};
 ghost use Rattle.csp_ports.specs.Counts.{AreFar, IsCountable};
 ghost use Rattle.csp_ports.specs.Held.{held};
 ghost use Rattle.csp_ports.specs.Keeps.{IsOwedBy};
-ghost use Rattle.csp_ports.specs.PlainPorts.{machine_at, stalled_at, waiting};
+ghost use Rattle.csp_ports.specs.PlainPorts.{machine_at, stalls_of, waiting};
 ghost use Rattle.csp_ports.specs.Tasks.{next_task, told_down};
 ghost use Rattle.csp_rdp.specs.Jobs.{job_of};
 ghost use Rattle.csp_stack.specs.Comes.{ComesTo, IsFree, IsServing};
@@ -296,7 +296,7 @@ fn works(state: &State, now: u64, source: Source) -> bool
 {
     match source {
         Source::Inbox => true,
-        Source::App(app) => state.ports.waiting(app) == 0 && !state.ports.is_stalled(app),
+        Source::App(app) => state.ports.waiting(app) == 0 && state.ports.stalled(app) == 0,
         Source::Jobs => state.ports.first_owed().is_some() || state.ports.next_task(now).is_some(),
     }
 }
@@ -522,7 +522,7 @@ fn finish_serve(
     requires fits { buffer_in (shown_answer answer) ≡ None }
     requires from { IfSome (item_in (shown_answer answer)) (IsFrom facts.now app) }
     requires first { waiting app state.old.state.ports.owed ≡ 0 }
-    requires alone { stalled_at state.old.state.ports app ≡ None }
+    requires alone { stalls_of app state.old.state.ports.slots ≡ 0 }
     requires of_it { IsAnswerFrom state.old.region answer }
     requires countable { IsCountable state.old.state.ports }
     ensures told { ComesTo state.old state.new report.old.items report.new.items ((turn_of facts.now state.old.state now (Plan.Serve app)).told (shown_answer answer)) }
