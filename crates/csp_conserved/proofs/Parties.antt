@@ -1,13 +1,13 @@
 -- Each party of a scene whose log is a run of its turns, and whose lanes are in order, keeps the numbers of its buffers.
-use Rattle.std.proofs.Common.{◌≡◌, ◌⊎◌, inl, inr, ℕ, suc, ◌<◌, ◌≤◌, Bool, true, false, Option, None, Some, List, [], ◌∷◌, length, slice_get, refl, sym, ◌∙◌, subst, arith}
-use Rattle.std.specs.Prelude.{IfSome, ⊤}
+use Rattle.std.proofs.Common.{◌≡◌, ◌⊎◌, inl, inr, ℕ, suc, ◌≤◌, Bool, true, false, Some, List, [], ◌∷◌, length, slice_get, refl, sym, ◌∙◌, subst, arith}
+use Rattle.std.specs.Prelude.{⊤}
 use Rattle.std.specs.List.{AllByRecursion, AllZip}
 use Rattle.std.proofs.lemmas.List.{length-replicate}
 use Rattle.std.proofs.lemmas.List.Elements.{All-replicate}
 use Rattle.std.proofs.lemmas.Option.{same_Some}
 use Rattle.csp_app.specs.PlainApp.{opening as app_opening}
 use Rattle.csp_bridge.specs.PlainBridge.{opening as bridge_opening}
-use Rattle.csp_base.specs.declared.limits.TheConstants.{MAX_APPS, SLOTS, ALL_SLOTS}
+use Rattle.csp_base.specs.declared.limits.TheConstants.{MAX_APPS, ALL_SLOTS}
 use Rattle.csp_consistent.proofs.Public.{each_at, Logged, are_apart, entries_at, IsOf, IsOwner, are_owners, as_hub, as_link, PopsWithin, logged, pops_within}
 use Rattle.csp_consistent.specs.Lanes.{AreInOrder}
 use Rattle.csp_consistent.specs.Reading.{entries_of, got_by}
