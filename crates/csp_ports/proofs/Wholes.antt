@@ -105,5 +105,5 @@ pub whole_seen : (p : Inside) (at : PortsAt) → ports_at p ≡ at → ArePorts 
 whole_seen p at view a = subst (λ (x : PortsAt). AreWhole x.ports) view (whole_in p a)
 
 -- the place of a slot that is there is one of theirs
-pub there_few : (p : PlainPorts) (seat : Seat) → AreWhole p → IsThere p.conns seat → (seat.app < 4) × (place_of seat < 16)
-there_few p seat h there = (omega (arith, h.few, there.of_node), omega (arith, h.few, there.of_node, there.of_app))
+pub there_few : (p : PlainPorts) (seat : Seat) → AreWhole p → IsThere p.conns seat → place_of seat < 16
+there_few p seat h there = omega (arith, h.few, there.of_node, there.of_app)
