@@ -1,7 +1,6 @@
 use Rattle.std.proofs.Common.{◌≡◌, ◌+◌, ◌∷◌, ◌++◌, [], ◌∙◌, ap, ap₂, arith, replicate}
 use Rattle.std.proofs.lemmas.List.{replicate-append-replicate}
 use Rattle.csp_ports.specs.PlainPorts.{untouched}
-
 use Rattle.csp_ports.proofs.ports.open_slots.Goals as goal
 
 pub loop-preserved : goal.loop-preserved

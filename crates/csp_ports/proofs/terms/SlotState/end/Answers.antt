@@ -1,4 +1,4 @@
-use Rattle.std.proofs.Common.{◌∙◌, ap, map}
+use Rattle.std.proofs.Common.{◌∙◌, ap, map, sym}
 use Rattle.std.specs.Prelude.{unwrap_or}
 use Rattle.std.specs.Option.{option_to_list}
 use Rattle.csp_ports.specs.PlainPorts.{machine_in}
@@ -12,4 +12,4 @@ pub end-requires : goal.end-requires
 end-requires c =
     numbers-buffers c.in-Some.machine
     ∙ ap (map (λ b. b.picture.number))
-    (ap (λ o. rdp_buffers (unwrap_or o idle)) c.in-Some.is ∙ nil-right (option_to_list c.args.self.stalled) (rdp_buffers (machine_in c.args.self)) c.requires)
+    (ap (λ o. rdp_buffers (unwrap_or o idle)) (sym c.in-Some.is) ∙ nil-right (option_to_list c.args.self.stalled) (rdp_buffers (machine_in c.args.self)) c.requires)
