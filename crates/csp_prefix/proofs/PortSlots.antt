@@ -13,7 +13,7 @@ use Rattle.csp_deck.specs.Carried.{IsReply}
 use Rattle.csp_log.specs.declared.note.Note.{Note}
 use Rattle.csp_log.specs.declared.note.Note.TheVariants as note
 use Rattle.csp_ports.specs.Kept.{IsOwed}
-use Rattle.csp_ports.specs.PlainPorts.{PlainPorts, machine_in, owing, state_at, untouched, with_machine, with_machine_or, with_stalled, with_terms}
+use Rattle.csp_ports.specs.PlainPorts.{PlainPorts, owing, state_at, untouched, with_machine, with_machine_or, with_stalled, with_terms}
 use Rattle.csp_ports.specs.declared.owed.Owed.{Owed}
 use Rattle.csp_ports.specs.declared.terms.SlotState.{SlotState}
 use Rattle.csp_ports.specs.declared.terms.Terms.{Terms}
