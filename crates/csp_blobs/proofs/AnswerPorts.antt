@@ -10,6 +10,7 @@ use Rattle.csp_base.specs.Seat.{seat}
 use Rattle.csp_base.specs.declared.seat.Seat.{Seat}
 use Rattle.csp_base.specs.declared.priority.Prio.{Prio}
 use Rattle.csp_buffer.specs.Content.{Content}
+use Rattle.csp_buffer.specs.PlainBuffer.{PlainBuffer}
 use Rattle.csp_conn.specs.Opening.{is_refused, own_port_of}
 use Rattle.csp_conn.specs.PlainConns.{place_of, seat_of, slot_at, with_slot}
 use Rattle.csp_conn.specs.Slots.{is_free}
@@ -24,7 +25,7 @@ use Rattle.csp_ports.specs.Came.{Came, come}
 use Rattle.csp_ports.specs.Kept.{wished, wishes}
 use Rattle.csp_ports.specs.Packets.{accepted, admitting_by, handing, invited, submitting_in}
 use Rattle.csp_ports.specs.PlainPorts.{PlainPorts, anywhere, fresh, has_machine, machine_at, owing, start_of, terms_at, terms_of, waiting, with_machine_or, with_stalled, with_terms}
-use Rattle.csp_ports.specs.Steps.{changed, closed_by, connected_by, dropped, dropped_of, freed, has_room, reason_of, refused_by, settled, stepped, timed, timed_at, timed_in, went, where_machine}
+use Rattle.csp_ports.specs.Steps.{admitted, changed, closed_by, connected_by, dropped, dropped_in, freed, has_room, reason_of, refused_by, settled, stepped, timed, timed_at, timed_in, went, where_machine}
 use Rattle.csp_ports.specs.Tasks.{delivered, told_down}
 use Rattle.csp_ports.specs.declared.handing.Invitation.{Invitation}
 use Rattle.csp_ports.specs.declared.flows.OwnFlows.{OwnFlows}
@@ -33,7 +34,7 @@ use Rattle.csp_ports.specs.declared.request.Request.{Request}
 use Rattle.csp_ports.specs.declared.terms.Terms.{Terms}
 use Rattle.csp_ports.specs.declared.terms.Wish.{Wish}
 use Rattle.csp_ports.specs.declared.terms.Wish.TheVariants as wish
-use Rattle.csp_ports.proofs.Public.{by_dropped, by_settled, terms_listed, terms_of_machine, terms_of_terms, wishes_earlier, wishes_later}
+use Rattle.csp_ports.proofs.Public.{by_dropped, by_settled, terms_listed, terms_of_machine, terms_of_stalled, terms_of_terms, wishes_earlier, wishes_later}
 use Rattle.csp_rdp.specs.Changes.{change_between}
 use Rattle.csp_rdp.specs.Holding.{rested}
 use Rattle.csp_rdp.specs.Jobs as jobs
@@ -268,13 +269,17 @@ where_goes false step p h = stays p
 
 -- ---- packets that wait
 
-settles : (time app : ℕ) (p : PlainPorts) → NoMore p (settled time app p)
-settles time app p =
-    let q : PlainPorts = with_stalled p app None in
-    by_settled (NoMore p) time app p (stays p) (λ s e room. machines q (seat app s.slot) (Some (jobs.admitting s.buffer time (machine_at q (seat app s.slot)))))
+-- another packet that waits at a slot, or none
+waits_else : (p : PlainPorts) (s : Seat) (o : Option PlainBuffer) → NoMore p (with_stalled p s o)
+waits_else p s o = as_due p (with_stalled p s o) refl (terms_of_stalled p s o)
 
-drops : (app : ℕ) (p : PlainPorts) → NoMore p (dropped app p).ports
-drops app p = by_dropped (λ c. NoMore p c.ports) app p (λ opens. stays p) (λ s e shut. stays p)
+settles : (time : ℕ) (s : Seat) (p : PlainPorts) → NoMore p (settled time s p)
+settles time s p =
+    let q : PlainPorts = with_stalled p s None in
+    by_settled (NoMore p) time s p (stays p) (λ b e room. both p q (admitted time s b q) (waits_else p s None) (machines q s (Some (jobs.admitting b time (machine_at q s)))))
+
+drops : (s : Seat) (p : PlainPorts) → NoMore p (dropped s p).ports
+drops s p = by_dropped (λ c. NoMore p c.ports) s p (λ opens. stays p) (λ b e shut. waits_else p s None)
 
 -- ---- the timers
 
@@ -289,17 +294,17 @@ times_in time (k ∷ ks) p =
     let q : PlainPorts = (timed_at time (seat_of k) p).ports in
     both p q (timed_in time ks q).ports (times_at time (seat_of k) p (omega arith)) (times_in time ks q)
 
-drops_of : (apps : List ℕ) (p : PlainPorts) → NoMore p (dropped_of apps p).ports
-drops_of [] p = stays p
-drops_of (app ∷ apps) p =
-    let q : PlainPorts = (dropped app p).ports in
-    both p q (dropped_of apps q).ports (drops app p) (drops_of apps q)
+drops_in : (ks : List ℕ) (p : PlainPorts) → NoMore p (dropped_in ks p).ports
+drops_in [] p = stays p
+drops_in (k ∷ ks) p =
+    let q : PlainPorts = (dropped (seat_of k) p).ports in
+    both p q (dropped_in ks q).ports (drops (seat_of k) p) (drops_in ks q)
 
 pub times : (time : ℕ) (p : PlainPorts) → NoMore p (timed time p).ports
 times time p =
     let q : PlainPorts = (timed_in time (range_with_len 0 (p.conns.apps * SLOTS)) p).ports in
-    both p q (dropped_of (range_with_len 0 q.conns.apps) q).ports (times_in time (range_with_len 0 (p.conns.apps * SLOTS)) p)
-    (drops_of (range_with_len 0 q.conns.apps) q)
+    both p q (dropped_in (range_with_len 0 (q.conns.apps * SLOTS)) q).ports (times_in time (range_with_len 0 (p.conns.apps * SLOTS)) p)
+    (drops_in (range_with_len 0 (q.conns.apps * SLOTS)) q)
 
 -- ---- packets
 
@@ -319,18 +324,18 @@ hands p s h b time low =
     let next : PlainRdp = after_packet h b.trace.tag (anywhere b) time r in
     let step : PlainPorts → Came = went r.state machine_why.Reset s next in
     let q : PlainPorts = (where_machine (has_machine p s) step p).ports in
-    let d : PlainPorts = (dropped s.app q).ports in
-    both p q (settled time s.app d) (where_goes (has_machine p s) step p (goes r.state machine_why.Reset s next p low)) (both q d (settled time s.app d) (drops s.app q) (settles time s.app d))
+    let d : PlainPorts = (dropped s q).ports in
+    both p q (settled time s d) (where_goes (has_machine p s) step p (goes r.state machine_why.Reset s next p low)) (both q d (settled time s d) (drops s q) (settles time s d))
 
 pub delivers : (time : ℕ) (s : Seat) (p : PlainPorts) → s.slot < SLOTS → NoMore p (delivered time s p).ports
 delivers time s p low =
     let r : PlainRdp = machine_at p s in
     let q : PlainPorts = (went r.state machine_why.Reset s (jobs.delivering time r) p).ports in
-    both p q (dropped s.app q).ports (goes r.state machine_why.Reset s (jobs.delivering time r) p low) (drops s.app q)
+    both p q (dropped s q).ports (goes r.state machine_why.Reset s (jobs.delivering time r) p low) (drops s q)
 
 admits_by : (room : Bool) (p : PlainPorts) (s : Seat) (b : Content) (time : ℕ) → NoMore p (admitting_by room p s b time)
 admits_by true p s b time = machines p s (Some (jobs.admitting (anywhere b) time (machine_at p s)))
-admits_by false p s b time = stays p
+admits_by false p s b time = waits_else p s (Some (anywhere b))
 
 pub submits_in : (st : State) (p : PlainPorts) (s : Seat) (b : Content) (time : ℕ) → NoMore p (submitting_in st p s b time).ports
 submits_in state.Open p s b time = admits_by (has_room (machine_at p s)) p s b time

@@ -1,13 +1,13 @@
 -- Each party of a scene whose log is a run of its turns, and whose lanes are in order, keeps the numbers of its buffers.
-use Rattle.std.proofs.Common.{◌≡◌, ◌⊎◌, inl, inr, ℕ, suc, ◌<◌, ◌≤◌, Bool, true, false, Option, None, Some, List, [], ◌∷◌, length, slice_get, refl, sym, ◌∙◌, subst, arith}
-use Rattle.std.specs.Prelude.{IfSome, ⊤}
+use Rattle.std.proofs.Common.{◌≡◌, ◌⊎◌, inl, inr, ℕ, suc, ◌≤◌, Bool, true, false, Some, List, [], ◌∷◌, length, slice_get, refl, sym, ◌∙◌, subst, arith}
+use Rattle.std.specs.Prelude.{⊤}
 use Rattle.std.specs.List.{AllByRecursion, AllZip}
 use Rattle.std.proofs.lemmas.List.{length-replicate}
 use Rattle.std.proofs.lemmas.List.Elements.{All-replicate}
 use Rattle.std.proofs.lemmas.Option.{same_Some}
 use Rattle.csp_app.specs.PlainApp.{opening as app_opening}
 use Rattle.csp_bridge.specs.PlainBridge.{opening as bridge_opening}
-use Rattle.csp_base.specs.declared.limits.TheConstants.{MAX_APPS, SLOTS, ALL_SLOTS}
+use Rattle.csp_base.specs.declared.limits.TheConstants.{MAX_APPS, ALL_SLOTS}
 use Rattle.csp_consistent.proofs.Public.{each_at, Logged, are_apart, entries_at, IsOf, IsOwner, are_owners, as_hub, as_link, PopsWithin, logged, pops_within}
 use Rattle.csp_consistent.specs.Lanes.{AreInOrder}
 use Rattle.csp_consistent.specs.Reading.{entries_of, got_by}
@@ -24,7 +24,7 @@ use Rattle.csp_log.specs.declared.shown.OpShown.{OpShown}
 use Rattle.csp_party.specs.Any.{PlainParty, a_bridge, a_hub, a_link, a_router, an_app, an_iface, holds}
 use Rattle.csp_ports.proofs.Public.{idle_whole}
 use Rattle.csp_ports.specs.Keeps.{AreWhole}
-use Rattle.csp_ports.specs.PlainPorts.{PlainStalled, ports_of, untouched}
+use Rattle.csp_ports.specs.PlainPorts.{ports_of, untouched}
 use Rattle.csp_prefix.proofs.Public.{router_there, each_any, each_both}
 use Rattle.csp_prefix.specs.Routers.{ComesSo}
 use Rattle.csp_rdp.specs.Balance.{IsWhole}
@@ -140,15 +140,7 @@ any_comes es = each_any (λ e. Any e.op e.answer) es (λ e. tt)
 -- ---- the ports of a router as it opens
 
 opening_whole : (apps : ℕ) → apps ≤ MAX_APPS → AreWhole (ports_of apps)
-opening_whole apps few =
-    let none : Option PlainStalled = None in
-    record {
-      few = few;
-      slots = length-replicate ALL_SLOTS untouched;
-      machines = All-replicate IsWhole ALL_SLOTS idle idle_whole;
-      places = length-replicate MAX_APPS none;
-      waits = All-replicate (λ (s : Option PlainStalled). IfSome s (λ t. t.slot < SLOTS)) MAX_APPS none tt;
-    }
+opening_whole apps few = record { few = few; slots = length-replicate ALL_SLOTS untouched; machines = All-replicate IsWhole ALL_SLOTS idle idle_whole }
 
 -- ---- the parties of a scene
 

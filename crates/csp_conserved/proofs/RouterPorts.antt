@@ -33,8 +33,8 @@ use Rattle.csp_rdp_window.specs.Numbers.{number_in}
 use Rattle.csp_rdp_window.specs.Receiving.{is_kept}
 
 -- ports are whole where the buffers are where they were in whole ones
-pub still_whole : (p q : PlainPorts) → q.conns.apps ≡ p.conns.apps → q.slots ≡ p.slots → q.stalled ≡ p.stalled → AreWhole p → AreWhole q
-still_whole p q a b c h = record { few = rw a h.few; slots = rw b h.slots; machines = subst (λ (ss : List SlotState). All IsWhole (map machine_in ss)) (sym b) h.machines; places = rw c h.places; waits = rw c h.waits }
+pub still_whole : (p q : PlainPorts) → q.conns.apps ≡ p.conns.apps → q.slots ≡ p.slots → AreWhole p → AreWhole q
+still_whole p q a b h = record { few = rw a h.few; slots = rw b h.slots; machines = subst (λ (ss : List SlotState). All IsWhole (map machine_in ss)) (sym b) h.machines }
 
 -- and other terms of a slot leave them there
 pub terms_whole : (p : PlainPorts) (s : Seat) (t : Terms) → AreWhole p → AreWhole (with_terms p s t)
@@ -42,8 +42,6 @@ terms_whole p s t h = record {
   few = h.few;
   slots = length-set p.slots (place_of s) (record (state_at p s) { terms = t }) ∙ h.slots;
   machines = subst (λ (rs : List PlainRdp). All IsWhole rs) (sym (machines_of_terms p s t)) h.machines;
-  places = h.places;
-  waits = h.waits;
 }
 
 -- ---- a packet that is handed to the machine of any slot
@@ -54,41 +52,40 @@ handing_to has r p s h b time =
     reporting (handing_event r b.trace.tag)
     (then (back_by (back_of (row_of r h b.payload) (anywhere b)) (is_stray (row_of r h b.payload)) p) (λ p.
     then (where_machine has (went r.state machine_why.Reset s (after_packet h b.trace.tag (anywhere b) time r)) p) (λ p.
-    then (dropped s.app p) (λ p.
-    come (settled time s.app p)))))
+    then (dropped s p) (λ p.
+    come (settled time s p)))))
 
--- an application that is not there has no packet that waits
-none_dropped : (p : PlainPorts) (app : ℕ) → stalled_at p app ≡ None → AreWhole p → Flows 0 p (dropped app p).ports (dropped app p).loose []
-none_dropped p app none h = by_dropped (λ c. Flows 0 p c.ports c.loose []) app p (λ opens. flows_none 0 p h) (λ s e shut. absurd (cc (none, e)))
+-- at a slot that is not there no packet waits
+none_dropped : (p : PlainPorts) (seat : Seat) → stalled_at p seat ≡ None → AreWhole p → Flows 0 p (dropped seat p).ports (dropped seat p).loose []
+none_dropped p seat none h = by_dropped (λ c. Flows 0 p c.ports c.loose []) seat p (λ opens. flows_none 0 p h) (λ b e shut. absurd (cc (none, e)))
 
-none_settled : (time : ℕ) (p : PlainPorts) (app : ℕ) → stalled_at p app ≡ None → AreWhole p → Flows 1 p (settled time app p) [] []
-none_settled time p app none h = by_settled (λ q. Flows 1 p q [] []) time app p (flows_none 1 p h) (λ s e room. absurd (cc (none, e)))
+none_settled : (time : ℕ) (p : PlainPorts) (seat : Seat) → stalled_at p seat ≡ None → AreWhole p → Flows 1 p (settled time seat p) [] []
+none_settled time p seat none h = by_settled (λ q. Flows 1 p q [] []) time seat p (flows_none 1 p h) (λ b e room. absurd (cc (none, e)))
 
 none_handed : (p : PlainPorts) (b : Content) → AreWhole p → Flows 0 p p (b ∷ []) (b.number ∷ [])
 none_handed p b h = let one = flows_none 0 p h in record { counts = λ o. omega arith; far = one.far; whole = h }
 
 -- so it has no use for a packet: that joins the trash
-handed_beyond : (p : PlainPorts) (seat : Seat) (h : RdpHead) (b : Content) (time : ℕ) → stalled_at p seat.app ≡ None → AreWhole p
+handed_beyond : (p : PlainPorts) (seat : Seat) (h : RdpHead) (b : Content) (time : ℕ) → stalled_at p seat ≡ None → AreWhole p
     → Flows 1 p (handing_to false idle p seat h b time).ports (handing_to false idle p seat h b time).loose (b.number ∷ [])
 handed_beyond p seat h b time waits w =
-    let two = dropped seat.app p in
+    let two = dropped seat p in
     let first = none_handed p b w in
-    let second = none_dropped p seat.app waits w in
+    let second = none_dropped p seat waits w in
     let both = flows_then 0 0 0 p p two.ports (b ∷ []) two.loose (b.number ∷ []) (omega arith) first second in
-    flows_then 0 1 1 p two.ports (settled time seat.app two.ports) ((b ∷ []) ++ two.loose) [] (b.number ∷ []) (omega arith) both (none_settled time two.ports seat.app (by_dropped (λ c. stalled_at c.ports seat.app ≡ None) seat.app p (λ opens. waits) (λ s e shut. absurd (cc (waits, e)))) second.whole)
+    flows_then 0 1 1 p two.ports (settled time seat two.ports) ((b ∷ []) ++ two.loose) [] (b.number ∷ []) (omega arith) both (none_settled time two.ports seat (by_dropped (λ c. stalled_at c.ports seat ≡ None) seat p (λ opens. waits) (λ b e shut. absurd (cc (waits, e)))) second.whole)
 
 pub flows_handing : (p : PlainPorts) (seat : Seat) (h : RdpHead) (b : Content) (time : ℕ) → seat.slot < 4 → AreWhole p → Flows 1 p (handing p seat h b time).ports (handing p seat h b time).loose (b.number ∷ [])
 flows_handing p seat h b time low w =
     by (nat_lt seat.app 4) refl
   where
     by : (there : Bool) → nat_lt seat.app 4 ≡ there → Flows 1 p (handing p seat h b time).ports (handing p seat h b time).loose (b.number ∷ [])
-    by true e = let few = ltb-true seat.app 4 e in flows_handed p seat h b time few (omega (arith, few, low)) w
+    by true e = let few = ltb-true seat.app 4 e in flows_handed p seat h b time (omega (arith, few, low)) w
     by false e =
         let many = ltb-false seat.app 4 e in
         let past : state_at p seat ≡ untouched = get_or_past p.slots (place_of seat) untouched (omega (arith, many, w.slots)) in
-        let waits : stalled_at p seat.app ≡ None = get_or_past p.stalled seat.app None (omega (arith, many, w.places)) in
         subst (λ (s : SlotState). Flows 1 p (handing_to (is_some s.machine) (machine_in s) p seat h b time).ports (handing_to (is_some s.machine) (machine_in s) p seat h b time).loose (b.number ∷ [])) (sym past)
-        (handed_beyond p seat h b time waits w)
+        (handed_beyond p seat h b time (ap (λ (s : SlotState). s.stalled) past) w)
 
 -- the seat whose connection was found is one of an application's
 pub found_low : (o : Option ℕ) (s : Seat) → option_map seat_of o ≡ Some s → s.slot < 4
@@ -98,7 +95,7 @@ found_low (Some place) s e = let same : seat_of place ≡ s = cc in subst (λ (t
 -- ---- tasks
 
 pub turned_whole : (p : PlainPorts) (s : Seat) → AreWhole p → AreWhole (turned s p)
-turned_whole p s h = still_whole p (turned s p) refl refl refl h
+turned_whole p s h = still_whole p (turned s p) refl refl h
 
 -- a packet is delivered by an open connection alone
 pub delivers_open : (r : PlainRdp) (b : PlainBuffer) → delivery r ≡ Some b → r.state ≡ Open

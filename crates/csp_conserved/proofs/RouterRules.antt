@@ -27,12 +27,12 @@ use Rattle.csp_log.specs.declared.note.Note.TheVariants as note
 use Rattle.csp_log.specs.declared.places.TheConstants.{UNMARKED}
 use Rattle.csp_log.specs.declared.shown.ItemShown.{ItemShown}
 use Rattle.csp_log.specs.declared.shown.ItemShown.TheVariants as item
-use Rattle.csp_ports.proofs.Public.{Flows, flows_connected, flows_ended, flows_invited, flows_submitted, held_terms}
+use Rattle.csp_ports.proofs.Public.{Flows, flows_connected, flows_ended, flows_invited, flows_submitted, held_terms, none_stalled}
 use Rattle.csp_ports.specs.Asking.{bind, close, connect, is_reliable}
 use Rattle.csp_ports.specs.Came.{Came}
 use Rattle.csp_ports.specs.Keeps.{AreWhole}
 use Rattle.csp_ports.specs.Packets.{accepted, handing, invited, submitting}
-use Rattle.csp_ports.specs.PlainPorts.{PlainPorts, is_closing, machine_at, stalled_at, terms_at}
+use Rattle.csp_ports.specs.PlainPorts.{PlainPorts, is_closing, machine_at, stalls_of, terms_at}
 use Rattle.csp_ports.specs.declared.handing.Invitation.{Invitation}
 use Rattle.csp_ports.specs.declared.request.Request.{Request}
 use Rattle.csp_ports.specs.declared.terms.Terms.{Terms}
@@ -182,7 +182,7 @@ module _ (f : Facts) (s : State) (empty : s.out ≡ None) (w : AreWhole s.ports)
       let q : PlainPorts = accepted s.ports seat (connection_of p.head) p.head.prio (answer_flags p.head) in
       let begins : PlainPorts = record s.ports { conns = with_slot s.ports.conns seat (has.Open (connection_of p.head)) } in
       let terms : Terms = record (terms_at s.ports seat) { prio = p.head.prio; flags = answer_flags p.head; wish = wish.Nothing; is_down = false } in
-      let one = adds_leaving (with_ports s q) (to_slot seat p.buffer) empty (terms_whole begins seat terms (still_whole s.ports begins refl refl refl w)) in
+      let one = adds_leaving (with_ports s q) (to_slot seat p.buffer) empty (terms_whole begins seat terms (still_whole s.ports begins refl refl w)) in
       (λ k. omega (arith, one.0 k, holds_apart k s.trash s.out s.ports, holds_apart k s.trash s.out q, ap (λ (bs : List Content). times k (numbers_of bs)) (held_terms begins seat terms)), one.1)
 
   inviting_adds : (r : Result Invitation Discard) (free : Option Seat) (bytes : List ℕ) → Holds (inviting r free (router f s) time (came_with bytes))
@@ -229,18 +229,18 @@ module _ (f : Facts) (s : State) (empty : s.out ≡ None) (w : AreWhole s.ports)
 
 -- ---- from an application
 
-on_connection_adds : (reliable : Bool) (c : Connection) (f : Facts) (s : State) (seat : Seat) (time : ℕ) (b : Content) → seat.app < 4 → seat.slot < 4 → stalled_at s.ports seat.app ≡ None → s.out ≡ None → AreWhole s.ports
+on_connection_adds : (reliable : Bool) (c : Connection) (f : Facts) (s : State) (seat : Seat) (time : ℕ) (b : Content) → seat.app < 4 → seat.slot < 4 → stalls_of seat.app s.ports.slots ≡ 0 → s.out ≡ None → AreWhole s.ports
     → Adds s (if reliable then ported s (submitting s.ports seat b time) else sent_on c (router f s) seat b).state (b.number ∷ [])
 on_connection_adds false c f s seat time b few low free empty w = sent_adds f s (addressed f c (terms_at s.ports seat) b) b.number (addressed_number f c (terms_at s.ports seat) b) empty w
 on_connection_adds true c f s seat time b few low free empty w =
-    adds_ported 1 s (submitting s.ports seat b time) (b.number ∷ []) (flows_submitted (machine_at s.ports seat).state s.ports seat b time few low w free)
+    adds_ported 1 s (submitting s.ports seat b time) (b.number ∷ []) (flows_submitted (machine_at s.ports seat).state s.ports seat b time (omega (arith, few, low)) w (none_stalled s.ports seat low free))
 
-by_slot_adds : (o : Slot) (f : Facts) (s : State) (seat : Seat) (time : ℕ) (b : Content) → seat.app < 4 → seat.slot < 4 → stalled_at s.ports seat.app ≡ None → s.out ≡ None → AreWhole s.ports → Adds s (by_slot o (router f s) seat time b).state (b.number ∷ [])
+by_slot_adds : (o : Slot) (f : Facts) (s : State) (seat : Seat) (time : ℕ) (b : Content) → seat.app < 4 → seat.slot < 4 → stalls_of seat.app s.ports.slots ≡ 0 → s.out ≡ None → AreWhole s.ports → Adds s (by_slot o (router f s) seat time b).state (b.number ∷ [])
 by_slot_adds has.Free f s seat time b few low free empty w = adds_discarded s why.NoConn b w
 by_slot_adds has.Held f s seat time b few low free empty w = adds_discarded s why.NoConn b w
 by_slot_adds (has.Open c) f s seat time b few low free empty w = on_connection_adds (is_reliable (terms_at s.ports seat).flags) c f s seat time b few low free empty w
 
-by_mark_adds : (unmarked : Bool) (f : Facts) (s : State) (seat : Seat) (time : ℕ) (b : Content) → (seat.slot == UNMARKED) ≡ unmarked → seat.app < 4 → IsUpItem (item.Packet seat.slot b) → stalled_at s.ports seat.app ≡ None → s.out ≡ None → AreWhole s.ports
+by_mark_adds : (unmarked : Bool) (f : Facts) (s : State) (seat : Seat) (time : ℕ) (b : Content) → (seat.slot == UNMARKED) ≡ unmarked → seat.app < 4 → IsUpItem (item.Packet seat.slot b) → stalls_of seat.app s.ports.slots ≡ 0 → s.out ≡ None → AreWhole s.ports
     → Adds s (by_mark unmarked (router f s) seat time b).state (b.number ∷ [])
 by_mark_adds true f s seat time b e few up free empty w = sent_adds f s b b.number refl empty w
 by_mark_adds false f s seat time b e few up free empty w =
@@ -251,8 +251,8 @@ by_mark_adds false f s seat time b e few up free empty w =
 bind_adds : (s : State) (app port need : ℕ) → AreWhole s.ports → Adds s (with_ports s (bind s.ports app port need)) []
 bind_adds s app port need w =
     let so : PlainPorts → Type 0 = λ q. Adds s (with_ports s q) [] in
-    either so (nat_lt port BINDABLE_PORTS) _ _ (either so (is_some (owner_of s.ports.bound port)) _ _ (λ k. omega arith, still_whole s.ports _ refl refl refl w) (λ k. omega arith, still_whole s.ports _ refl refl refl w))
-    (λ k. omega arith, still_whole s.ports _ refl refl refl w)
+    either so (nat_lt port BINDABLE_PORTS) _ _ (either so (is_some (owner_of s.ports.bound port)) _ _ (λ k. omega arith, still_whole s.ports _ refl refl w) (λ k. omega arith, still_whole s.ports _ refl refl w))
+    (λ k. omega arith, still_whole s.ports _ refl refl w)
 
 requested_adds : (n : Note) (f : Facts) (s : State) (app time : ℕ) → app < 4 → IsUpItem (item.Note n) → AreWhole s.ports → Adds s (requested f s app time n).state []
 requested_adds (note.Bind port need) f s app time few up w = bind_adds s app port need w
@@ -268,7 +268,7 @@ requested_adds (note.Refused reason) f s app time few up w = adds_none s w
 requested_adds (note.Closed slot) f s app time few up w = adds_none s w
 requested_adds (note.Down slot) f s app time few up w = adds_none s w
 
-pub served_adds : (i : ItemShown) (f : Facts) (s : State) (app time : ℕ) → app < 4 → IsUpItem i → stalled_at s.ports app ≡ None → s.out ≡ None → AreWhole s.ports → Adds s (served f s time app i).state (item_numbers i)
+pub served_adds : (i : ItemShown) (f : Facts) (s : State) (app time : ℕ) → app < 4 → IsUpItem i → stalls_of app s.ports.slots ≡ 0 → s.out ≡ None → AreWhole s.ports → Adds s (served f s time app i).state (item_numbers i)
 served_adds (item.Packet mark b) f s app time few up free empty w = by_mark_adds (mark == UNMARKED) f s (seat app mark) time b refl few up free empty w
 served_adds (item.Note n) f s app time few up free empty w = requested_adds n f s app time few up w
 served_adds (item.Frame frame) f s app time few up free empty w = absurd up

@@ -23,7 +23,7 @@ use Rattle.csp_log.specs.declared.shown.OpShown.TheVariants as op
 use Rattle.csp_ports.proofs.Public.{flows_timed, flows_answered, flows_delivered, held_terms, keeps_again, keeps_made, now_taken}
 use Rattle.csp_ports.specs.Asking.{answered}
 use Rattle.csp_ports.specs.Keeps.{AreWhole}
-use Rattle.csp_ports.specs.PlainPorts.{PlainPorts, machine_at, stalled_at, terms_at}
+use Rattle.csp_ports.specs.PlainPorts.{PlainPorts, machine_at, stalls_of, terms_at}
 use Rattle.csp_ports.specs.Steps.{timed as ports_timed}
 use Rattle.csp_ports.specs.Tasks.{delivered, kept_again, made_in, making, next_task, told_down, turned, without_packet}
 use Rattle.csp_ports.specs.declared.owed.Owed.{Owed}
@@ -123,7 +123,7 @@ module _ (f : Facts) (few : f.apps ≤ MAX_APPS) where
   turn_hear s time answer.Empty empty w fits comes = (λ k. omega arith, w)
   turn_hear s time a empty w fits comes = absurd fits
 
-  turn_serve : (app : ℕ) (s : State) (time : ℕ) (a : AnswerShown) → app < f.apps → stalled_at s.ports app ≡ None → s.out ≡ None → AreWhole s.ports → TurnsBy s time (plan.Serve app) a
+  turn_serve : (app : ℕ) (s : State) (time : ℕ) (a : AnswerShown) → app < f.apps → stalls_of app s.ports.slots ≡ 0 → s.out ≡ None → AreWhole s.ports → TurnsBy s time (plan.Serve app) a
   turn_serve app s time (answer.Popped i) low free empty w fits comes =
       let h : State = at_rest (until_answer f s time (plan.Serve app)) in
       moves_by s h (after_told s time (plan.Serve app) (answer.Popped i)) [] (item_numbers i) (λ k. omega arith) (served_adds i f h app time (omega (arith, low, few)) comes.0 free empty w)
@@ -183,11 +183,11 @@ module _ (f : Facts) (few : f.apps ≤ MAX_APPS) where
   keeping_adds s (item.Frame frame) b h e there opened none w = absurd cc
   keeping_adds s (item.Note n) b h e there opened none w = absurd cc
 
-  delivering_told : (s : Seat) (time : ℕ) (b : Content) (h : State) (a : AnswerShown) → s.app < 4 → place_of s < 16 → (machine_at h.ports s).state ≡ state.Open → is_kept (machine_at h.ports s).recv ((machine_at h.ports s).recv.cur + 1) ≡ false → AreWhole h.ports
+  delivering_told : (s : Seat) (time : ℕ) (b : Content) (h : State) (a : AnswerShown) → place_of s < 16 → (machine_at h.ports s).state ≡ state.Open → is_kept (machine_at h.ports s).recv ((machine_at h.ports s).recv.cur + 1) ≡ false → AreWhole h.ports
       → Fits (op.Push (queue.Down s.app) (item.Packet s.slot b)) a → Adds h (cond (is_pushed a) (ported h (delivered time s h.ports)) (kept_back h s (packet_in (item_in a)))).state (answer_numbers a)
-  delivering_told s time b h answer.Pushed low there opened none w fits = adds_ported 1 h (delivered time s h.ports) [] (flows_delivered h.ports time s low there w opened none)
-  delivering_told s time b h (answer.Full i) low there opened none w fits = keeping_adds s i b h fits there opened none w
-  delivering_told s time b h a low there opened none w fits = absurd fits
+  delivering_told s time b h answer.Pushed there opened none w fits = adds_ported 1 h (delivered time s h.ports) [] (flows_delivered h.ports time s there w opened none)
+  delivering_told s time b h (answer.Full i) there opened none w fits = keeping_adds s i b h fits there opened none w
+  delivering_told s time b h a there opened none w fits = absurd fits
 
   turn_deliver : (o : Option PlainBuffer) (seat : Seat) (s : State) (time : ℕ) (a : AnswerShown) → seat.app < 4 → seat.slot < 4 → delivery (machine_at s.ports seat) ≡ o → is_some o ≡ true → AreWhole s.ports
       → Fits (delivering o seat) a → Moves s (after_told s time (plan.Deliver seat) a) (op_numbers (delivering o seat)) (answer_numbers a)
@@ -201,7 +201,7 @@ module _ (f : Facts) (few : f.apps ≤ MAX_APPS) where
       let flows = flows_taken q seat b there whole e in
       let h : State = at_rest (until_answer f s time (plan.Deliver seat)) in
       moves_by s h (after_told s time (plan.Deliver seat) a) (b.picture.number ∷ []) (answer_numbers a) (taken_first seat b s time there e w)
-      (delivering_told seat time b.picture h a low there taken.0 taken.1 flows.whole fits)
+      (delivering_told seat time b.picture h a there taken.0 taken.1 flows.whole fits)
 
   -- ---- a packet that is made
   made_adds : (o : Slot) (s : Seat) (j : Job) (time : ℕ) (b : Content) (h : State) → place_of s < 16 → h.out ≡ None → AreWhole h.ports → Adds h (made_on o (s, j) (router f h) time b).state (b.number ∷ [])

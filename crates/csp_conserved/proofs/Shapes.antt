@@ -22,7 +22,7 @@ use Rattle.csp_ports.proofs.Public.{by_dropped, by_settled}
 use Rattle.csp_ports.specs.Came.{Came, come}
 use Rattle.csp_ports.specs.Packets.{accepted, admitting_by, handing, submitting, submitting_in}
 use Rattle.csp_ports.specs.PlainPorts.{PlainPorts, anywhere, has_machine, is_closing, machine_at, terms_at}
-use Rattle.csp_ports.specs.Steps.{changed, closed_by, connected_by, dropped, dropped_of, freed, has_room, refused_by, settled, stepped, timed, timed_at, timed_in, went, where_machine}
+use Rattle.csp_ports.specs.Steps.{changed, closed_by, connected_by, dropped, dropped_in, freed, has_room, refused_by, settled, stepped, timed, timed_at, timed_in, went, where_machine}
 use Rattle.csp_ports.specs.Tasks.{delivered}
 use Rattle.csp_ports.specs.declared.flows.OwnFlows.{OwnFlows}
 use Rattle.csp_ports.specs.declared.owed.Owed.{Owed}
@@ -96,11 +96,11 @@ where_shape false step p h = refl
 
 -- ---- the packet that waits
 
-dropped_shape : (app : ℕ) (p : PlainPorts) → shape (dropped app p).ports ≡ shape p
-dropped_shape app p = by_dropped (λ c. shape c.ports ≡ shape p) app p (λ opens. refl) (λ s e shut. refl)
+dropped_shape : (s : Seat) (p : PlainPorts) → shape (dropped s p).ports ≡ shape p
+dropped_shape s p = by_dropped (λ c. shape c.ports ≡ shape p) s p (λ opens. refl) (λ b e shut. refl)
 
-settled_shape : (time app : ℕ) (p : PlainPorts) → shape (settled time app p) ≡ shape p
-settled_shape time app p = by_settled (λ q. shape q ≡ shape p) time app p refl (λ s e room. refl)
+settled_shape : (time : ℕ) (s : Seat) (p : PlainPorts) → shape (settled time s p) ≡ shape p
+settled_shape time s p = by_settled (λ q. shape q ≡ shape p) time s p refl (λ b e room. refl)
 
 -- ---- the timers
 
@@ -113,14 +113,14 @@ timed_in_shape time (k ∷ ks) p =
     ∙ where_shape (has_machine p (seat_of k)) (went r.state machine_why.Timeout (seat_of k) (ticked time r)) p
     (went_shape r.state machine_why.Timeout (seat_of k) (ticked time r) p)
 
-dropped_of_shape : (apps : List ℕ) (p : PlainPorts) → shape (dropped_of apps p).ports ≡ shape p
-dropped_of_shape [] p = refl
-dropped_of_shape (app ∷ apps) p = dropped_of_shape apps (dropped app p).ports ∙ dropped_shape app p
+dropped_in_shape : (ks : List ℕ) (p : PlainPorts) → shape (dropped_in ks p).ports ≡ shape p
+dropped_in_shape [] p = refl
+dropped_in_shape (k ∷ ks) p = dropped_in_shape ks (dropped (seat_of k) p).ports ∙ dropped_shape (seat_of k) p
 
 pub timed_shape : (time : ℕ) (p : PlainPorts) → shape (timed time p).ports ≡ shape p
 timed_shape time p =
     let one = timed_in time (range_with_len 0 (p.conns.apps * SLOTS)) p in
-    dropped_of_shape (range_with_len 0 one.ports.conns.apps) one.ports ∙ timed_in_shape time (range_with_len 0 (p.conns.apps * SLOTS)) p
+    dropped_in_shape (range_with_len 0 (one.ports.conns.apps * SLOTS)) one.ports ∙ timed_in_shape time (range_with_len 0 (p.conns.apps * SLOTS)) p
 
 -- ---- packets
 
@@ -132,7 +132,7 @@ handing_shape p s h b time =
     let r = machine_at p s in
     let step : PlainPorts → Came = went r.state machine_why.Reset s (after_packet h b.trace.tag (anywhere b) time r) in
     let gone = (where_machine (has_machine p s) step p).ports in
-    settled_shape time s.app (dropped s.app gone).ports ∙ dropped_shape s.app gone
+    settled_shape time s (dropped s gone).ports ∙ dropped_shape s gone
     ∙ where_shape (has_machine p s) step p (went_shape r.state machine_why.Reset s (after_packet h b.trace.tag (anywhere b) time r) p)
 
 pub submitting_shape : (p : PlainPorts) (s : Seat) (b : Content) (time : ℕ) → shape (submitting p s b time).ports ≡ shape p
@@ -222,4 +222,4 @@ answered_shape p = by p.owed
 pub delivered_shape : (time : ℕ) (s : Seat) (p : PlainPorts) → shape (delivered time s p).ports ≡ shape p
 delivered_shape time s p =
     let r = machine_at p s in
-    dropped_shape s.app (went r.state machine_why.Reset s (delivering time r) p).ports ∙ went_shape r.state machine_why.Reset s (delivering time r) p
+    dropped_shape s (went r.state machine_why.Reset s (delivering time r) p).ports ∙ went_shape r.state machine_why.Reset s (delivering time r) p

@@ -1,28 +1,25 @@
 -- what comes of each step of ports, and that it neither loses a buffer nor counts further than it may
-use Rattle.std.specs.Prelude.{Bool, true, false, IfSome, None, Option, Some, unwrap_or}
+use Rattle.std.specs.Prelude.{Bool, true, false, None, Option, Some, unwrap_or}
 use Rattle.std.specs.List.{range_with_len}
-use Rattle.std.proofs.Common.{◌≡◌, ℕ, zero, suc, ◌+◌, ◌*◌, ◌<◌, ◌≤◌, List, [], ◌∷◌, ◌++◌, refl, arith, ap, subst, sym, ◌∙◌}
-use Rattle.std.proofs.lemmas.List.{length-set}
-use Rattle.std.proofs.lemmas.List.Elements.{All-set}
-use Rattle.csp_base.specs.Seat.{seat}
+use Rattle.std.specs.Option.{option_to_list}
+use Rattle.std.proofs.Common.{◌≡◌, ℕ, zero, suc, ◌+◌, ◌*◌, ◌<◌, ◌≤◌, List, [], ◌∷◌, ◌++◌, refl, arith, ap, sym}
 use Rattle.csp_base.specs.declared.seat.Seat.{Seat}
 use Rattle.csp_buffer.specs.Content.{Content}
 use Rattle.csp_buffer.specs.PlainBuffer.{PlainBuffer}
 use Rattle.csp_conn.specs.PlainConns.{place_of, seat_of, with_slot}
 use Rattle.csp_base.specs.declared.limits.TheConstants.{SLOTS}
 use Rattle.csp_conn.specs.declared.slot.Slot.TheVariants.{Free}
-use Rattle.csp_ports.proofs.Counting.{all_or, far_at, far_changed, far_closed, far_connected, far_idle, far_terms}
-use Rattle.csp_ports.proofs.Flowing.{Flows, far_later, flows_machine, flows_rested, flows_still, flows_then, machine_far, machine_later, machine_whole_or, whole_at}
+use Rattle.csp_ports.proofs.Counting.{far_at, far_changed, far_closed, far_connected, far_idle, far_stalled, far_terms}
+use Rattle.csp_ports.proofs.Flowing.{Flows, far_later, flows_machine, flows_rested, flows_still, flows_then, machine_far, machine_later, machine_whole_or, same_whole, whole_at}
 use Rattle.csp_ports.proofs.Settling.{by_dropped, by_settled}
-use Rattle.csp_ports.proofs.Slots.{machines_of_terms}
+use Rattle.csp_ports.proofs.Slots.{held_terms, machines_of_stalled, machines_of_terms}
 use Rattle.csp_ports.proofs.Weighing.{machine_gone, tally, tally_append, tally_none, tally_same, waiting_tallied, weigh, weight}
 use Rattle.csp_ports.proofs.Wholes.{admitted_whole, idle_whole, ticked_whole}
 use Rattle.csp_ports.specs.Came.{pictures}
 use Rattle.csp_ports.specs.Counts.{AreFar}
-use Rattle.csp_ports.specs.Held.{stalled_buffers}
 use Rattle.csp_ports.specs.Keeps.{AreWhole}
-use Rattle.csp_ports.specs.PlainPorts.{PlainPorts, PlainStalled, has_machine, machine_at, stalled_at, terms_at, with_machine, with_machine_or, with_stalled, with_terms}
-use Rattle.csp_ports.specs.Steps.{admitted, changed, closed_by, connected_by, down, dropped, dropped_of, freed, refused_by, settled, timed, timed_at, timed_in, went, where_machine}
+use Rattle.csp_ports.specs.PlainPorts.{PlainPorts, has_machine, machine_at, stalled_at, terms_at, with_machine, with_machine_or, with_stalled, with_terms}
+use Rattle.csp_ports.specs.Steps.{admitted, changed, closed_by, connected_by, down, dropped, dropped_in, freed, refused_by, settled, timed, timed_at, timed_in, went, where_machine}
 use Rattle.csp_ports.specs.declared.terms.Terms.{Terms}
 use Rattle.csp_ports.specs.declared.terms.Wish.{Wish}
 use Rattle.csp_ports.specs.declared.terms.Wish.TheVariants as wish
@@ -67,7 +64,7 @@ flows_freed m ordinal seat p one h =
     let free : PlainPorts = record p { conns = with_slot p.conns seat Free } in
     let t : Terms = record (terms_at p seat) { wish = wish.Nothing; is_down = false; ordinal = ordinal } in
     let q : PlainPorts = with_terms free seat t in
-    let first : Flows m p q [] [] = flows_still m p q refl (machines_of_terms free seat t) refl (λ n k. far_terms (n + m) free seat t (one n k) (conns_far (n + m) p seat (far_later n (n + m) p (omega arith) k))) h in
+    let first : Flows m p q [] [] = flows_still m p q refl (machines_of_terms free seat t) (held_terms free seat t) (λ n k. far_terms (n + m) free seat t (one n k) (conns_far (n + m) p seat (far_later n (n + m) p (omega arith) k))) h in
     flows_then m 0 m p q (with_machine_or q seat None) [] (pictures (rdp_buffers (machine_at q seat))) [] (omega arith) first
     (flows_replaced q seat None idle_whole (far_idle 0) refl first.whole)
 
@@ -80,7 +77,7 @@ flows_freed_next seat p h = flows_freed 1 ((terms_at p seat).ordinal + 1) seat p
 -- ---- what a change of a connection comes to
 
 flows_connected : (w : Wish) (seat : Seat) (p : PlainPorts) → AreWhole p → Flows 0 p (connected_by w seat p) [] []
-flows_connected wish.Connection seat p h = flows_still 0 p (connected_by wish.Connection seat p) refl (machines_of_terms p seat (record (terms_at p seat) { wish = wish.Nothing })) refl (no_further p (connected_by wish.Connection seat p) (λ n k. far_connected n wish.Connection p seat k)) h
+flows_connected wish.Connection seat p h = flows_still 0 p (connected_by wish.Connection seat p) refl (machines_of_terms p seat (record (terms_at p seat) { wish = wish.Nothing })) (held_terms p seat (record (terms_at p seat) { wish = wish.Nothing })) (no_further p (connected_by wish.Connection seat p) (λ n k. far_connected n wish.Connection p seat k)) h
 flows_connected wish.Nothing seat p h = flows_none 0 p h
 flows_connected wish.End seat p h = flows_none 0 p h
 flows_connected wish.Ended seat p h = flows_none 0 p h
@@ -97,7 +94,7 @@ flows_refused wish.End why seat p h = flows_freed_same seat p h
 flows_refused wish.Ended why seat p h = flows_freed_same seat p h
 
 flows_closed : (w : Wish) (was_open : Bool) (seat : Seat) (p : PlainPorts) → AreWhole p → Flows 0 p (closed_by w was_open seat p).ports (closed_by w was_open seat p).loose []
-flows_closed wish.End o seat p h = flows_still 0 p (closed_by wish.End o seat p).ports refl (machines_of_terms p seat (record (terms_at p seat) { wish = wish.Ended })) refl (no_further p (closed_by wish.End o seat p).ports (λ n k. far_closed n wish.End o p seat k)) h
+flows_closed wish.End o seat p h = flows_still 0 p (closed_by wish.End o seat p).ports refl (machines_of_terms p seat (record (terms_at p seat) { wish = wish.Ended })) (held_terms p seat (record (terms_at p seat) { wish = wish.Ended })) (no_further p (closed_by wish.End o seat p).ports (λ n k. far_closed n wish.End o p seat k)) h
 flows_closed wish.Nothing true seat p h = flows_none 0 p h
 flows_closed wish.Nothing false seat p h = flows_freed_same seat p h
 flows_closed wish.Connection o seat p h = flows_none 0 p h
@@ -107,7 +104,7 @@ pub flows_changed : (ch : Change) (seat : Seat) (p : PlainPorts) → AreWhole p 
 flows_changed change.None seat p h = flows_none 0 p h
 flows_changed change.Opened seat p h = flows_connected (terms_at p seat).wish seat p h
 flows_changed (change.Refused why) seat p h = flows_refused (terms_at p seat).wish why seat p h
-flows_changed change.Down seat p h = flows_still 0 p (down seat p) refl (machines_of_terms p seat (record (terms_at p seat) { is_down = true })) refl (no_further p (down seat p) (λ n k. far_changed n change.Down p seat k)) h
+flows_changed change.Down seat p h = flows_still 0 p (down seat p) refl (machines_of_terms p seat (record (terms_at p seat) { is_down = true })) (held_terms p seat (record (terms_at p seat) { is_down = true })) (no_further p (down seat p) (λ n k. far_changed n change.Down p seat k)) h
 flows_changed change.Closed seat p h = flows_closed (terms_at p seat).wish (machine_at p seat).was_open seat p h
 
 -- a machine made a step, and what it changed; besides, it may hand back what came
@@ -121,31 +118,25 @@ flows_went m p seat before why r back came there h whole far even =
 
 -- ---- packets that wait
 
--- another, or none, in the place of an application's
-pub flows_stalled : (p : PlainPorts) (app : ℕ) (v : Option PlainStalled) (loose : List Content) (came : List ℕ) → app < 4 → AreWhole p → IfSome v (λ s. s.slot < SLOTS)
-    → ((o : Option ℕ) → weigh o loose + weight o (stalled_buffers v) ≡ weight o (stalled_buffers (stalled_at p app)) + tally o came) → Flows 0 p (with_stalled p app v) loose came
-flows_stalled p app v loose came there h slot even = record {
-  counts = λ o. omega (arith, waiting_tallied o p app v (omega (arith, there, h.places)), even o);
-  far = no_further p (with_stalled p app v) (λ n k. record { machines = k.machines; made = k.made; ends = k.ends });
-  whole = record {
-    few = h.few;
-    slots = h.slots;
-    machines = h.machines;
-    places = length-set p.stalled app v ∙ h.places;
-    waits = All-set (λ (s : Option PlainStalled). IfSome s (λ t. t.slot < SLOTS)) p.stalled app v slot h.waits;
-  };
+-- another, or none, in the place of a slot's
+pub flows_stalled : (p : PlainPorts) (seat : Seat) (v : Option PlainBuffer) (loose : List Content) (came : List ℕ) → place_of seat < 16 → AreWhole p
+    → ((o : Option ℕ) → weigh o loose + weight o (option_to_list v) ≡ weight o (option_to_list (stalled_at p seat)) + tally o came) → Flows 0 p (with_stalled p seat v) loose came
+flows_stalled p seat v loose came there h even = record {
+  counts = λ o. omega (arith, waiting_tallied o p seat v (omega (arith, there, h.slots)), even o);
+  far = no_further p (with_stalled p seat v) (λ n k. far_stalled n p seat v k);
+  whole = same_whole p (with_stalled p seat v) refl (machines_of_stalled p seat v) h;
 }
 
 -- one is taken out
-taken_even : (o : Option ℕ) (p : PlainPorts) (app : ℕ) (s : PlainStalled) → stalled_at p app ≡ Some s → weigh o (s.buffer.picture ∷ []) + weight o (stalled_buffers None) ≡ weight o (stalled_buffers (stalled_at p app)) + tally o []
-taken_even o p app s e = ap (λ (w : Option PlainStalled). weight o (stalled_buffers w) + tally o []) (sym e)
+taken_even : (o : Option ℕ) (p : PlainPorts) (seat : Seat) (b : PlainBuffer) → stalled_at p seat ≡ Some b → weigh o (b.picture ∷ []) + weight o (option_to_list None) ≡ weight o (option_to_list (stalled_at p seat)) + tally o []
+taken_even o p seat b e = ap (λ (w : Option PlainBuffer). weight o (option_to_list w) + tally o []) (sym e)
 
-flows_unstalled : (p : PlainPorts) (app : ℕ) (s : PlainStalled) → stalled_at p app ≡ Some s → app < 4 → AreWhole p → Flows 0 p (with_stalled p app None) (s.buffer.picture ∷ []) []
-flows_unstalled p app s e there h = flows_stalled p app None (s.buffer.picture ∷ []) [] there h tt (λ o. taken_even o p app s e)
+flows_unstalled : (p : PlainPorts) (seat : Seat) (b : PlainBuffer) → stalled_at p seat ≡ Some b → place_of seat < 16 → AreWhole p → Flows 0 p (with_stalled p seat None) (b.picture ∷ []) []
+flows_unstalled p seat b e there h = flows_stalled p seat None (b.picture ∷ []) [] there h (λ o. taken_even o p seat b e)
 
 -- it is discarded where its connection is not open any more
-pub flows_dropped : (app : ℕ) (p : PlainPorts) → app < 4 → AreWhole p → Flows 0 p (dropped app p).ports (dropped app p).loose []
-flows_dropped app p there h = by_dropped (λ c. Flows 0 p c.ports c.loose []) app p (λ opens. flows_none 0 p h) (λ s e shut. flows_unstalled p app s e there h)
+pub flows_dropped : (seat : Seat) (p : PlainPorts) → place_of seat < 16 → AreWhole p → Flows 0 p (dropped seat p).ports (dropped seat p).loose []
+flows_dropped seat p there h = by_dropped (λ c. Flows 0 p c.ports c.loose []) seat p (λ opens. flows_none 0 p h) (λ b e shut. flows_unstalled p seat b e there h)
 
 -- a packet is admitted to a window
 pub flows_admitted : (p : PlainPorts) (time : ℕ) (seat : Seat) (b : PlainBuffer) → place_of seat < 16 → AreWhole p → Flows 1 p (with_machine p seat (admitting b time (machine_at p seat))) [] (b.picture.number ∷ [])
@@ -156,22 +147,19 @@ flows_admitted p time seat b there h =
     (λ o. omega (arith, tally_none o, tally_same o (rdp_numbers (admitting b time r)) (rdp_numbers r ++ b.picture.number ∷ []) (admitted-balanced b time r), tally_append o (rdp_numbers r) (b.picture.number ∷ [])))
 
 -- the packet that waits is, where there is room
-settled_there : (p : PlainPorts) (app : ℕ) (s : PlainStalled) → stalled_at p app ≡ Some s → AreWhole p → s.slot < SLOTS
-settled_there p app s e h = subst (λ (w : Option PlainStalled). IfSome w (λ t. t.slot < SLOTS)) e (all_or (λ (w : Option PlainStalled). IfSome w (λ t. t.slot < SLOTS)) p.stalled app None h.waits tt)
-
-flows_unstalled_admitted : (time app : ℕ) (s : PlainStalled) (p : PlainPorts) → stalled_at p app ≡ Some s → app < 4 → AreWhole p → Flows 1 p (admitted time (seat app s.slot) s.buffer (with_stalled p app None)) [] []
-flows_unstalled_admitted time app s p e there h =
-    let first = flows_unstalled p app s e there h in
-    let q = with_stalled p app None in
-    let last = flows_admitted q time (seat app s.slot) s.buffer (omega (arith, there, settled_there p app s e h)) first.whole in
+flows_unstalled_admitted : (time : ℕ) (seat : Seat) (b : PlainBuffer) (p : PlainPorts) → stalled_at p seat ≡ Some b → place_of seat < 16 → AreWhole p → Flows 1 p (admitted time seat b (with_stalled p seat None)) [] []
+flows_unstalled_admitted time seat b p e there h =
+    let first = flows_unstalled p seat b e there h in
+    let q = with_stalled p seat None in
+    let last = flows_admitted q time seat b there first.whole in
     record {
       counts = λ o. omega (arith, first.counts o, last.counts o, tally_none o);
       far = λ n k. last.far n (far_later (n + 0) n q (omega arith) (first.far n k));
       whole = last.whole;
     }
 
-pub flows_settled : (time app : ℕ) (p : PlainPorts) → app < 4 → AreWhole p → Flows 1 p (settled time app p) [] []
-flows_settled time app p there h = by_settled (λ q. Flows 1 p q [] []) time app p (flows_none 1 p h) (λ s e room. flows_unstalled_admitted time app s p e there h)
+pub flows_settled : (time : ℕ) (seat : Seat) (p : PlainPorts) → place_of seat < 16 → AreWhole p → Flows 1 p (settled time seat p) [] []
+flows_settled time seat p there h = by_settled (λ q. Flows 1 p q [] []) time seat p (flows_none 1 p h) (λ b e room. flows_unstalled_admitted time seat b p e there h)
 
 -- ---- the timers
 
@@ -197,17 +185,17 @@ flows_timed_in time a (suc n) p few h =
     let first = flows_timed_at time (seat_of a) p (place_again a (omega (arith, few))) h in
     flows_then 0 0 0 p one.ports rest.ports one.loose rest.loose [] (omega arith) first (flows_timed_in time (a + 1) n one.ports (omega (arith, few)) first.whole)
 
-flows_dropped_of : (a n : ℕ) (p : PlainPorts) → a + n ≤ 4 → AreWhole p → Flows 0 p (dropped_of (range_with_len a n) p).ports (dropped_of (range_with_len a n) p).loose []
-flows_dropped_of a zero p few h = flows_none 0 p h
-flows_dropped_of a (suc n) p few h =
-    let one = dropped a p in
-    let rest = dropped_of (range_with_len (a + 1) n) one.ports in
-    let first = flows_dropped a p (omega (arith, few)) h in
-    flows_then 0 0 0 p one.ports rest.ports one.loose rest.loose [] (omega arith) first (flows_dropped_of (a + 1) n one.ports (omega (arith, few)) first.whole)
+flows_dropped_in : (a n : ℕ) (p : PlainPorts) → a + n ≤ 16 → AreWhole p → Flows 0 p (dropped_in (range_with_len a n) p).ports (dropped_in (range_with_len a n) p).loose []
+flows_dropped_in a zero p few h = flows_none 0 p h
+flows_dropped_in a (suc n) p few h =
+    let one = dropped (seat_of a) p in
+    let rest = dropped_in (range_with_len (a + 1) n) one.ports in
+    let first = flows_dropped (seat_of a) p (place_again a (omega (arith, few))) h in
+    flows_then 0 0 0 p one.ports rest.ports one.loose rest.loose [] (omega arith) first (flows_dropped_in (a + 1) n one.ports (omega (arith, few)) first.whole)
 
 pub flows_timed : (time : ℕ) (p : PlainPorts) → AreWhole p → Flows 0 p (timed time p).ports (timed time p).loose []
 flows_timed time p h =
     let one = timed_in time (range_with_len 0 (p.conns.apps * SLOTS)) p in
-    let rest = dropped_of (range_with_len 0 one.ports.conns.apps) one.ports in
+    let rest = dropped_in (range_with_len 0 (one.ports.conns.apps * SLOTS)) one.ports in
     let first = flows_timed_in time 0 (p.conns.apps * SLOTS) p (omega (arith, h.few)) h in
-    flows_then 0 0 0 p one.ports rest.ports one.loose rest.loose [] (omega arith) first (flows_dropped_of 0 one.ports.conns.apps one.ports (omega (arith, first.whole.few)) first.whole)
+    flows_then 0 0 0 p one.ports rest.ports one.loose rest.loose [] (omega arith) first (flows_dropped_in 0 (one.ports.conns.apps * SLOTS) one.ports (omega (arith, first.whole.few)) first.whole)

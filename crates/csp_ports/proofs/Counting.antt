@@ -4,12 +4,13 @@ use Rattle.std.specs.List.{All}
 use Rattle.std.proofs.Common.{zero, suc, ◌≤◌, List, [], ◌∷◌, arith, subst, sym}
 use Rattle.std.proofs.lemmas.List.Elements.{All-head, All-set, All-tail}
 use Rattle.csp_base.specs.declared.seat.Seat.{Seat}
+use Rattle.csp_buffer.specs.PlainBuffer.{PlainBuffer}
 use Rattle.csp_conn.specs.PlainConns.{place_of, with_slot}
 use Rattle.csp_conn.specs.declared.slot.Slot.TheVariants.{Free}
 use Rattle.csp_ports.proofs.Settling.{by_dropped}
-use Rattle.csp_ports.proofs.Slots.{machine_listed, machines_of_machine, machines_of_terms, terms_listed, terms_of_machine, terms_of_terms}
+use Rattle.csp_ports.proofs.Slots.{machine_listed, machines_of_machine, machines_of_stalled, machines_of_terms, terms_listed, terms_of_machine, terms_of_stalled, terms_of_terms}
 use Rattle.csp_ports.specs.Counts.{AreFar}
-use Rattle.csp_ports.specs.PlainPorts.{PlainPorts, fresh, machine_at, machines_of, terms_at, terms_of, with_machine, with_machine_or, with_terms}
+use Rattle.csp_ports.specs.PlainPorts.{PlainPorts, fresh, machine_at, machines_of, terms_at, terms_of, with_machine, with_machine_or, with_stalled, with_terms}
 use Rattle.csp_ports.specs.Steps.{changed, closed_by, connected_by, dropped, freed, refused_by}
 use Rattle.csp_ports.specs.declared.terms.Terms.{Terms}
 use Rattle.csp_ports.specs.declared.terms.Wish.{Wish}
@@ -92,6 +93,13 @@ far_changed n (change.Refused why) p seat h = far_refused n (terms_at p seat).wi
 far_changed n change.Down p seat h = far_terms n p seat (record (terms_at p seat) { is_down = true }) (far_at n p seat h) h
 far_changed n change.Closed p seat h = far_closed n (terms_at p seat).wish (machine_at p seat).was_open p seat h
 
--- a packet that waits is discarded
-pub far_dropped : (n app : ℕ) (p : PlainPorts) → AreFar n p → AreFar n (dropped app p).ports
-far_dropped n app p h = by_dropped (λ c. AreFar n c.ports) app p (λ opens. h) (λ s e shut. record { machines = h.machines; made = h.made; ends = h.ends })
+-- another packet that waits, or none
+pub far_stalled : (n : ℕ) (p : PlainPorts) (seat : Seat) (o : Option PlainBuffer) → AreFar n p → AreFar n (with_stalled p seat o)
+far_stalled n p seat o h = record {
+  machines = subst (All (IsFar n)) (sym (machines_of_stalled p seat o)) h.machines;
+  made = h.made;
+  ends = subst (All (λ t. t.ordinal ≤ n)) (sym (terms_of_stalled p seat o)) h.ends;
+}
+
+pub far_dropped : (n : ℕ) (seat : Seat) (p : PlainPorts) → AreFar n p → AreFar n (dropped seat p).ports
+far_dropped n seat p h = by_dropped (λ c. AreFar n c.ports) seat p (λ opens. h) (λ b e shut. far_stalled n p seat None h)

@@ -10,7 +10,7 @@ use Rattle.csp_conn.specs.PlainConns.{place_of}
 use Rattle.csp_deck.specs.Keeping.{PlainPile}
 use Rattle.csp_log.specs.declared.event.Event.{Event}
 use Rattle.csp_ports.proofs.Counting.{all_or, far_machine_at, far_machine_or}
-use Rattle.csp_ports.proofs.Slots.{held_same, machine_listed, machines_of_machine}
+use Rattle.csp_ports.proofs.Slots.{machine_listed, machines_of_machine}
 use Rattle.csp_ports.proofs.Weighing.{long, machine_tallied, parted_tally, tally, tally_none, weigh, weigh_append}
 use Rattle.csp_ports.proofs.Wholes.{idle_whole}
 use Rattle.csp_ports.specs.Came.{Came, Comes, pictures, at_work}
@@ -51,21 +51,19 @@ flows_then k m n p q r first second came sum f g = record {
   whole = g.whole;
 }
 
--- so it goes where the buffers stay where they are
-same_whole : (p q : PlainPorts) → q.conns.apps ≡ p.conns.apps → machines_of q ≡ machines_of p → q.stalled ≡ p.stalled → AreWhole p → AreWhole q
-same_whole p q a b c h = record {
+-- so it goes where the machines, and all that is held, stay as they are
+pub same_whole : (p q : PlainPorts) → q.conns.apps ≡ p.conns.apps → machines_of q ≡ machines_of p → AreWhole p → AreWhole q
+same_whole p q a b h = record {
   few = rw a h.few;
   slots = sym (length-map q.slots machine_in) ∙ (ap length b ∙ (length-map p.slots machine_in ∙ h.slots));
   machines = subst (All IsWhole) (sym b) h.machines;
-  places = rw c h.places;
-  waits = rw c h.waits;
 }
 
-pub flows_still : (m : ℕ) (p q : PlainPorts) → q.conns.apps ≡ p.conns.apps → machines_of q ≡ machines_of p → q.stalled ≡ p.stalled → ((n : ℕ) → AreFar n p → AreFar (n + m) q) → AreWhole p → Flows m p q [] []
+pub flows_still : (m : ℕ) (p q : PlainPorts) → q.conns.apps ≡ p.conns.apps → machines_of q ≡ machines_of p → held q ≡ held p → ((n : ℕ) → AreFar n p → AreFar (n + m) q) → AreWhole p → Flows m p q [] []
 flows_still m p q a b c far h = record {
-  counts = λ o. omega (arith, ap (weigh o) (held_same p q b c), tally_none o);
+  counts = λ o. omega (arith, ap (weigh o) c, tally_none o);
   far = far;
-  whole = same_whole p q a b c h;
+  whole = same_whole p q a b h;
 }
 
 -- another machine in the place of a slot's, or none
@@ -74,8 +72,6 @@ machine_whole_or p seat o one h = record {
   few = h.few;
   slots = length-set p.slots (place_of seat) (record (state_at p seat) { machine = o }) ∙ h.slots;
   machines = subst (All IsWhole) (sym (machines_of_machine p seat o)) (All-set IsWhole (machines_of p) (place_of seat) (unwrap_or o idle) one h.machines);
-  places = h.places;
-  waits = h.waits;
 }
 
 pub machine_whole : (p : PlainPorts) (seat : Seat) (r : PlainRdp) → IsWhole r → AreWhole p → AreWhole (with_machine p seat r)

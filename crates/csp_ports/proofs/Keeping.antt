@@ -1,29 +1,30 @@
 -- what holds of a node's ports goes on to hold when a part of them changes
 use Rattle.std.specs.Prelude.{IfSome, None, Option, Some, get_or, is_some, slice_set, unwrap_or}
 use Rattle.std.specs.Option.{option_map}
-use Rattle.csp_ports.specs.declared.stalled.Stalled.{Stalled}
 use Rattle.std.proofs.Common.{◌≡◌, ℕ, ◌+◌, ◌<◌, ◌≤◌, List, length, map, arith, ap, refl, subst, sym, ◌∙◌}
 use Rattle.std.specs.Vec.{with_item}
 use Rattle.std.proofs.lemmas.List.{get_or-map, length-map, length-set, map-set}
 use Rattle.std.proofs.lemmas.List.Elements.{All-get_or, All-set}
 use Rattle.csp_base.specs.declared.seat.Seat.{Seat}
+use Rattle.csp_buffer.specs.PlainBuffer.{PlainBuffer}
 use Rattle.csp_conn.specs.PlainConns.{place_of}
-use Rattle.csp_ports.proofs.Wishing.{due_after}
+use Rattle.csp_ports.proofs.Stalling.{alone_after, one_in, stalls_same}
+use Rattle.csp_ports.proofs.Wishing.{weighs_after}
 use Rattle.csp_deck.specs.Regions.{nowhere}
-use Rattle.csp_ports.specs.Kept.{ArePorts, IsHoused, IsWaiting, plain_ports, ports_at, stalled_of, wished, wishes}
-use Rattle.csp_ports.specs.PlainPorts.{PlainStalled, PortsAt, fresh, has_machine, machine_at, stalled_at, state_at, terms_at, terms_of, untouched, waiting, with_machine, with_machine_or, with_ports_at, with_stalled, with_terms}
+use Rattle.csp_ports.specs.Kept.{ArePorts, IsHoused, IsKept, IsWaiting, plain_ports, ports_at, wished, wishes}
+use Rattle.csp_ports.specs.PlainPorts.{PortsAt, fresh, has_machine, machine_at, stalled_at, stalls_of, state_at, terms_at, terms_of, untouched, waiting, with_machine, with_machine_or, with_ports_at, with_stalled, with_terms}
 use Rattle.csp_ports.specs.declared.terms.SlotState.{SlotState}
-use Rattle.csp_ports.proofs.Holding.{AreHoused}
-use Rattle.csp_ports.proofs.Slots.{placed_state, terms_listed, terms_of_machine, terms_of_terms}
+use Rattle.csp_ports.proofs.Slots.{placed_state, terms_listed, terms_of_machine, terms_of_stalled, terms_of_terms}
 use Rattle.csp_rdp.specs.Machine.{PlainRdp, idle}
-use Rattle.csp_rdp.specs.Placed.{placed}
+use Rattle.csp_rdp.specs.Placed.{placed, placed_buffer}
 use Rattle.csp_ports.specs.declared.ports.Ports.TheInside.{Inside}
 use Rattle.csp_ports.specs.declared.ports.TheConstants.{ANSWERS}
 use Rattle.csp_ports.specs.declared.terms.Terms.{Terms}
 
--- what is kept of a slot: another in a place, with no more answers still to come than may be
-slot_kept : (p : Inside) (k : ℕ) (s : SlotState) → AreHoused p.token.name s → ((app : ℕ) → waiting app p.owed.items + wishes app (terms_of (plain_ports (record p { slots = with_item p.slots k s }))) ≤ ANSWERS) → ArePorts p → ArePorts (record p { slots = with_item p.slots k s })
-slot_kept p k s h due a = record {
+-- what is kept of a slot: another in a place, with no more answers still to come, and no more packets that wait, than may be
+slot_kept : (p : Inside) (k : ℕ) (s : SlotState) → IsKept p.token.name s → ((app : ℕ) → waiting app p.owed.items + wishes app (terms_of (plain_ports (record p { slots = with_item p.slots k s }))) ≤ ANSWERS)
+    → ((app : ℕ) → stalls_of app (slice_set p.slots.items k s) ≤ 1) → ArePorts p → ArePorts (record p { slots = with_item p.slots k s })
+slot_kept p k s h due alone a = record {
   few = a.few;
   apps = a.apps;
   room = a.room;
@@ -31,10 +32,17 @@ slot_kept p k s h due a = record {
   owed = a.owed;
   due = due;
   slots = length-set p.slots.items k s ∙ a.slots;
-  housed = All-set (AreHoused p.token.name) p.slots.items k s h a.housed;
-  places = a.places;
-  waits = a.waits;
+  kept = All-set (IsKept p.token.name) p.slots.items k s h a.kept;
+  alone = alone;
 }
+
+-- what is kept of the slot in a place
+pub kept_in : (p : Inside) (k : ℕ) (s : SlotState) → k < 16 → ArePorts p → s ≡ get_or p.slots.items k s → IsKept p.token.name s
+kept_in p k s there a value = subst (IsKept p.token.name) (sym value) (All-get_or (IsKept p.token.name) p.slots.items k s (omega (arith, there, a.slots)) a.kept)
+
+-- where the packet that waits there stays, or none does, an application has one at most as before
+alone_same : (p : Inside) (k : ℕ) (s new : SlotState) → ArePorts p → s ≡ get_or p.slots.items k s → new.stalled ≡ s.stalled → (app : ℕ) → stalls_of app (slice_set p.slots.items k new) ≤ 1
+alone_same p k s new a value same app = rw (stalls_same app p.slots.items k new s (same ∙ ap (λ (x : SlotState). x.stalled) value)) (a.alone app)
 
 -- what a place has
 pub slot_in : (p : Inside) (seat : Seat) (place : ℕ) (d : SlotState) → place ≡ place_of seat → place < 16 → ArePorts p → placed_state nowhere (get_or p.slots.items place d) ≡ state_at (plain_ports p) seat
@@ -58,13 +66,14 @@ terms_set p seat place s t e there a value =
 pub terms_kept : (p : Inside) (seat : Seat) (place : ℕ) (s : SlotState) (t : Terms) → place ≡ place_of seat → seat.slot < 4 → place < 16 → ArePorts p → s ≡ get_or p.slots.items place s
     → (waiting seat.app p.owed.items + wishes seat.app (terms_of (plain_ports p))) + wished t.wish ≤ ANSWERS + wished (terms_at (plain_ports p) seat).wish → ArePorts (record p { slots = with_item p.slots place (record s { terms = t }) })
 terms_kept p seat place s t e h there a value more =
-    slot_kept p place (record s { terms = t })
-    (subst (λ (x : SlotState). IfSome x.machine (IsHoused p.token.name)) (sym value) (All-get_or (AreHoused p.token.name) p.slots.items place s (omega (arith, there, a.slots)) a.housed))
+    let kept = kept_in p place s there a value in
+    slot_kept p place (record s { terms = t }) (record { housed = kept.housed; waits = kept.waits })
     (λ b.
     subst (λ (ts : List Terms). waiting b p.owed.items + wishes b ts ≤ ANSWERS)
     (sym (ap (λ (x : PortsAt). terms_of x.ports) (terms_set p seat place s t e there a value) ∙ terms_of_terms (plain_ports p) seat t))
-    (due_after ANSWERS seat (terms_of (plain_ports p)) (λ b. waiting b p.owed.items) t fresh h (omega (arith, e, there, a.slots, seen_terms p)) a.due
+    (weighs_after (λ t. wished t.wish) ANSWERS seat (terms_of (plain_ports p)) (λ b. waiting b p.owed.items) t fresh h (omega (arith, e, there, a.slots, seen_terms p)) a.due
     (subst (λ (u : Terms). (waiting seat.app p.owed.items + wishes seat.app (terms_of (plain_ports p))) + wished t.wish ≤ ANSWERS + wished u.wish) (terms_listed (plain_ports p) seat) more) b))
+    (alone_same p place s (record s { terms = t }) a value refl)
     a
 
 -- the machine of a slot, or none, as contracts see it
@@ -76,10 +85,11 @@ machine_set p seat place s o e there a value =
 
 pub machines_kept : (p : Inside) (seat : Seat) (place : ℕ) (s : SlotState) (o : Option PlainRdp) → place ≡ place_of seat → place < 16 → s ≡ get_or p.slots.items place s → IfSome o (IsHoused p.token.name) → ArePorts p → ArePorts (record p { slots = with_item p.slots place (record s { machine = o }) })
 machines_kept p seat place s o e there value h a =
-    slot_kept p place (record s { machine = o }) h
+    slot_kept p place (record s { machine = o }) (record { housed = h; waits = (kept_in p place s there a value).waits })
     (λ b.
     subst (λ (ts : List Terms). waiting b p.owed.items + wishes b ts ≤ ANSWERS)
     (sym (ap (λ (x : PortsAt). terms_of x.ports) (machine_set p seat place s o e there a value) ∙ terms_of_machine (plain_ports p) seat (option_map (placed nowhere) o))) (a.due b))
+    (alone_same p place s (record s { machine = o }) a value refl)
     a
 
 -- the machine that a place has, as contracts see it
@@ -107,7 +117,7 @@ machine_absent p at seat place s view e there a value none =
 -- it is housed
 pub housed_in : (p : Inside) (k : ℕ) (s : SlotState) (r : PlainRdp) → k < 16 → ArePorts p → s ≡ get_or p.slots.items k s → Some r ≡ s.machine → IsHoused p.token.name r
 housed_in p k s r there a value some =
-    subst (λ (o : Option PlainRdp). IfSome o (IsHoused p.token.name)) (sym (some ∙ ap (λ (x : SlotState). x.machine) value)) (All-get_or (AreHoused p.token.name) p.slots.items k s (omega (arith, there, a.slots)) a.housed)
+    subst (λ (o : Option PlainRdp). IfSome o (IsHoused p.token.name)) (sym some) (kept_in p k s there a value).housed
 
 -- the ports, once it made a step
 pub machine_stepped : (p : Inside) (at : PortsAt) (seat : Seat) (place : ℕ) (s : SlotState) (r new : PlainRdp) (step : PlainRdp → PlainRdp) → ports_at p ≡ at → place ≡ place_of seat → place < 16 → ArePorts p → s ≡ get_or p.slots.items place s → Some r ≡ s.machine → placed nowhere new ≡ step (placed nowhere r)
@@ -117,24 +127,27 @@ machine_stepped p at seat place s r new step view e there a value some made =
     ∙ (ap (λ (x : PortsAt). with_ports_at x (with_machine x.ports seat (placed nowhere new))) view
     ∙ ap (λ (q : PlainRdp). with_ports_at at (with_machine at.ports seat q)) (made ∙ ap step (machine_seen p at seat place s r view e there a value some)))
 
--- the packets that wait: another one, or none, in a place
-pub stalled_kept : (p : Inside) (app : ℕ) (s : Option Stalled) → IfSome s (IsWaiting p.token.name) → ArePorts p → ArePorts (record p { stalled = slice_set p.stalled app s })
-stalled_kept p app s h a = record {
-  few = a.few;
-  apps = a.apps;
-  room = a.room;
-  owners = a.owners;
-  owed = a.owed;
-  due = a.due;
-  slots = a.slots;
-  housed = a.housed;
-  places = length-set p.stalled app s ∙ a.places;
-  waits = All-set (λ t. IfSome t (IsWaiting p.token.name)) p.stalled app s h a.waits;
-}
+-- the packet that waits in a place, as contracts see it
+pub stalled_in : (p : Inside) (at : PortsAt) (seat : Seat) (place : ℕ) (s : SlotState) → ports_at p ≡ at → place ≡ place_of seat → place < 16 → ArePorts p → s ≡ get_or p.slots.items place s → option_map (placed_buffer nowhere) s.stalled ≡ stalled_at at.ports seat
+stalled_in p at seat place s view e there a value =
+    ap (λ (x : SlotState). (placed_state nowhere x).stalled) value ∙ (ap (λ (x : SlotState). x.stalled) (slot_in p seat place s e there a) ∙ ap (λ (x : PortsAt). stalled_at x.ports seat) view)
 
--- the packet in a place, as contracts see it
-pub stalled_in : (p : Inside) (app : ℕ) (d : Option Stalled) → app < 4 → ArePorts p → option_map stalled_of (get_or p.stalled app d) ≡ stalled_at (plain_ports p) app
-stalled_in p app d there a = sym (get_or-map (option_map stalled_of) p.stalled app d None (omega (arith, there, a.places)))
+-- another there, or none
+pub stalled_set : (p : Inside) (seat : Seat) (place : ℕ) (s : SlotState) (o : Option PlainBuffer) → place ≡ place_of seat → place < 16 → ArePorts p → s ≡ get_or p.slots.items place s
+    → ports_at (record p { slots = with_item p.slots place (record s { stalled = o }) }) ≡ with_ports_at (ports_at p) (with_stalled (plain_ports p) seat (option_map (placed_buffer nowhere) o))
+stalled_set p seat place s o e there a value =
+    slot_set p seat place (record s { stalled = o }) e
+    ∙ ap (λ (x : SlotState). with_ports_at (ports_at p) (record (plain_ports p) { slots = slice_set (plain_ports p).slots (place_of seat) (record x { stalled = option_map (placed_buffer nowhere) o }) })) (ap (placed_state nowhere) value ∙ slot_in p seat place s e there a)
 
-pub stalled_set : (p : Inside) (app : ℕ) (s : Option Stalled) → ports_at (record p { stalled = slice_set p.stalled app s }) ≡ with_ports_at (ports_at p) (with_stalled (plain_ports p) app (option_map stalled_of s))
-stalled_set p app s = ap (λ (ss : List (Option PlainStalled)). with_ports_at (ports_at p) (record (plain_ports p) { stalled = ss })) (map-set (option_map stalled_of) p.stalled app s)
+pub stalled_kept : (p : Inside) (seat : Seat) (place : ℕ) (s : SlotState) (o : Option PlainBuffer) → place ≡ place_of seat → seat.slot < 4 → place < 16 → ArePorts p → s ≡ get_or p.slots.items place s → IfSome o (IsWaiting p.token.name)
+    → stalls_of seat.app p.slots.items + one_in (record s { stalled = o }) ≤ 1 + one_in s → ArePorts (record p { slots = with_item p.slots place (record s { stalled = o }) })
+stalled_kept p seat place s o e h there a value waits fewer =
+    slot_kept p place (record s { stalled = o }) (record { housed = (kept_in p place s there a value).housed; waits = waits })
+    (λ b.
+    subst (λ (ts : List Terms). waiting b p.owed.items + wishes b ts ≤ ANSWERS)
+    (sym (ap (λ (x : PortsAt). terms_of x.ports) (stalled_set p seat place s o e there a value) ∙ terms_of_stalled (plain_ports p) seat (option_map (placed_buffer nowhere) o))) (a.due b))
+    (λ b.
+    subst (λ (k : ℕ). stalls_of b (slice_set p.slots.items k (record s { stalled = o })) ≤ 1) (sym e)
+    (alone_after seat p.slots.items (record s { stalled = o }) s h (omega (arith, e, there, a.slots)) a.alone
+    (subst (λ (x : SlotState). stalls_of seat.app p.slots.items + one_in (record s { stalled = o }) ≤ 1 + one_in x) (value ∙ ap (λ (k : ℕ). get_or p.slots.items k s) e) fewer) b))
+    a

@@ -14,6 +14,7 @@ mod Serving
 mod Settling
 mod Sizing
 mod Slots
+mod Stalling
 mod Stilling
 mod Tasking
 mod Waiting

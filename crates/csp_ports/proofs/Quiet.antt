@@ -7,7 +7,7 @@ use Rattle.csp_ports.proofs.Holding.{nil-left, nil-right}
 use Rattle.csp_ports.proofs.Settling.{by_dropped}
 use Rattle.csp_ports.specs.Came.{Comes, at_work}
 use Rattle.csp_ports.specs.PlainPorts.{PlainPorts, PortsAt, machine_at, terms_at}
-use Rattle.csp_ports.specs.Steps.{changed, closed_by, dropped, dropped_of, refused_by}
+use Rattle.csp_ports.specs.Steps.{changed, closed_by, dropped, dropped_in, refused_by}
 use Rattle.csp_ports.specs.declared.terms.Wish.{Wish}
 use Rattle.csp_ports.specs.declared.terms.Wish.TheVariants as wish
 use Rattle.csp_rdp.specs.Changes.{change_between}
@@ -21,6 +21,7 @@ use Rattle.csp_rdp.specs.declared.answers.Cause.{Cause}
 use Rattle.csp_rdp_window.specs.Times.{has_passed}
 use Rattle.std.specs.Prelude.{Some}
 use Rattle.csp_base.specs.declared.seat.Seat.{Seat}
+use Rattle.csp_conn.specs.PlainConns.{seat_of}
 
 closed_quiet : (w : Wish) (was : Bool) (seat : Seat) (p : PlainPorts) → (closed_by w was seat p).events ≡ []
 closed_quiet wish.End was seat p = refl
@@ -84,19 +85,19 @@ never_opens time r why h = go (has_passed (Some r.since) r.options.conn_timeout 
     go false h = stays r.state why h
 
 -- where a packet that waits is discarded its buffer is let go, so that nothing is reported where nothing is let go
-dropped_quiet : (app : ℕ) (p : PlainPorts) → (dropped app p).loose ≡ [] → (dropped app p).events ≡ []
-dropped_quiet app p = by_dropped (λ c. c.loose ≡ [] → c.events ≡ []) app p (λ opens none. refl) (λ s e shut none. absurd cc)
+dropped_quiet : (seat : Seat) (p : PlainPorts) → (dropped seat p).loose ≡ [] → (dropped seat p).events ≡ []
+dropped_quiet seat p = by_dropped (λ c. c.loose ≡ [] → c.events ≡ []) seat p (λ opens none. refl) (λ b e shut none. absurd cc)
 
-dropped_of_quiet : (apps : List ℕ) (p : PlainPorts) → (dropped_of apps p).loose ≡ [] → (dropped_of apps p).events ≡ []
-dropped_of_quiet [] p none = refl
-dropped_of_quiet (app ∷ apps) p none =
-    let d = dropped app p in
-    let rest = dropped_of apps d.ports in
-    ap₂ (λ xs ys. xs ++ ys) (dropped_quiet app p (nil-left d.loose rest.loose none)) (dropped_of_quiet apps d.ports (nil-right d.loose rest.loose none))
+dropped_in_quiet : (ks : List ℕ) (p : PlainPorts) → (dropped_in ks p).loose ≡ [] → (dropped_in ks p).events ≡ []
+dropped_in_quiet [] p none = refl
+dropped_in_quiet (k ∷ ks) p none =
+    let d = dropped (seat_of k) p in
+    let rest = dropped_in ks d.ports in
+    ap₂ (λ xs ys. xs ++ ys) (dropped_quiet (seat_of k) p (nil-left d.loose rest.loose none)) (dropped_in_quiet ks d.ports (nil-right d.loose rest.loose none))
 
-pub drops_quietly : (old new : PortsAt) (before after : PlainPile) (earlier later : List Event) (apps : List ℕ) (p : PlainPorts) → Comes (at_work old before earlier) (at_work new after later) (dropped_of apps p) →
+pub drops_quietly : (old new : PortsAt) (before after : PlainPile) (earlier later : List Event) (ks : List ℕ) (p : PlainPorts) → Comes (at_work old before earlier) (at_work new after later) (dropped_in ks p) →
     earlier ≡ [] → after.contents ≡ [] → later ≡ []
-drops_quietly old new before after earlier later apps p comes first none =
+drops_quietly old new before after earlier later ks p comes first none =
     let all = ap (λ (t : PlainPile). t.contents) comes.trash in
-    let loose = nil-right before.contents (dropped_of apps p).loose (sym all ∙ none) in
-    comes.events ∙ ap₂ (λ xs ys. xs ++ ys) first (dropped_of_quiet apps p loose)
+    let loose = nil-right before.contents (dropped_in ks p).loose (sym all ∙ none) in
+    comes.events ∙ ap₂ (λ xs ys. xs ++ ys) first (dropped_in_quiet ks p loose)

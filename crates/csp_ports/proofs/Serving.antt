@@ -1,6 +1,6 @@
 -- what comes of packets, tasks, and what applications ask: that it neither loses a buffer nor counts further than it may
 use Rattle.std.specs.Prelude.{Bool, true, false, cond, MatchOption, None, Option, Some, unwrap_or}
-use Rattle.std.specs.List.{All, flat_map}
+use Rattle.std.specs.List.{All}
 use Rattle.std.specs.Option.{IsSome, option_map, option_to_list}
 use Rattle.std.proofs.Common.{◌≡◌, ℕ, ◌+◌, ◌<◌, ◌≤◌, List, [], ◌∷◌, ◌++◌, length, map, refl, arith, ap, subst, sym, ◌∙◌}
 use Rattle.std.proofs.lemmas.List.{append_assoc}
@@ -29,10 +29,10 @@ use Rattle.csp_ports.proofs.Wholes.{closed_whole, sent_whole}
 use Rattle.csp_ports.specs.Asking.{answered, answered_by, asking, close_by, connect, ending_in, freed_by, held_by, is_reliable, joined, linked, plain, unjoined}
 use Rattle.csp_ports.specs.Came.{Came, come, pictures, reporting, then}
 use Rattle.csp_ports.specs.Counts.{AreFar}
-use Rattle.csp_ports.specs.Held.{emptied, emptied_by, first_out, held, slot_buffers, stalled_buffers, without_held}
+use Rattle.csp_ports.specs.Held.{emptied, first_out, handed_out, held, slot_buffers, without_held}
 use Rattle.csp_ports.specs.Keeps.{AreWhole, Keeps, at_hand}
 use Rattle.csp_ports.specs.Packets.{accepted, admitting_by, back_by, handing, handing_event, invited, submitting_in}
-use Rattle.csp_ports.specs.PlainPorts.{PlainPorts, PlainStalled, PortsAt, anywhere, has_machine, machine_at, machine_in, machines_of, stalled_at, start_of, terms_at, terms_of, with_machine, with_ports_at, with_stalled, with_terms, wishing}
+use Rattle.csp_ports.specs.PlainPorts.{PlainPorts, PortsAt, anywhere, has_machine, machine_at, machine_in, machines_of, stalled_at, start_of, terms_at, terms_of, with_machine, with_ports_at, with_stalled, with_terms, wishing}
 use Rattle.csp_ports.specs.declared.terms.SlotState.{SlotState}
 use Rattle.csp_ports.specs.Steps.{changed, dropped, ended, has_room, settled, stepped, went, where_machine}
 use Rattle.csp_ports.specs.Tasks.{delivered, kept_again, making, told_down, without_packet}
@@ -46,7 +46,7 @@ use Rattle.csp_ports.specs.declared.terms.Wish.TheVariants as wish
 use Rattle.csp_rdp.specs.Balance.{IsWhole}
 use Rattle.csp_rdp.specs.Changes.{change_between}
 use Rattle.csp_rdp.specs.Counts.{IsFar}
-use Rattle.csp_rdp.specs.Holding.{rdp_buffers, rdp_numbers, rested, taken_out, unneeded}
+use Rattle.csp_rdp.specs.Holding.{rdp_buffers, rdp_numbers, rested, unneeded}
 use Rattle.csp_rdp.specs.Jobs.{closing, one_more_delivered, delivering, delivery, keeping_again, sent, taken_in, without_delivery}
 use Rattle.csp_rdp.specs.Machine.{PlainRdp, accepting, connecting}
 use Rattle.csp_rdp.specs.Table.{back_of, after_packet, is_stray, row_of}
@@ -128,16 +128,16 @@ keeps_accepted p seat c prio flags =
     keeps_same 0 p q (held_terms taken seat t) (no_further p q (λ n k. far_terms n taken seat t (far_at n p seat k) (record { machines = k.machines; made = k.made; ends = k.ends })))
 
 -- a packet is delivered
-pub flows_delivered : (p : PlainPorts) (time : ℕ) (seat : Seat) → seat.app < 4 → place_of seat < 16 → AreWhole p → (machine_at p seat).state ≡ Open → is_kept (machine_at p seat).recv ((machine_at p seat).recv.cur + 1) ≡ false
+pub flows_delivered : (p : PlainPorts) (time : ℕ) (seat : Seat) → place_of seat < 16 → AreWhole p → (machine_at p seat).state ≡ Open → is_kept (machine_at p seat).recv ((machine_at p seat).recv.cur + 1) ≡ false
     → Flows 1 p (delivered time seat p).ports (delivered time seat p).loose []
-flows_delivered p time seat few there h opened none =
+flows_delivered p time seat there h opened none =
     let r = machine_at p seat in
     let one = went r.state machine_why.Reset seat (delivering time r) p in
     let first =
     flows_went 1 p seat r.state machine_why.Reset (delivering time r) [] [] there h (whole-delivered time r opened none (whole_at p seat h)) (λ n far. far-delivered n time r far)
     (λ o. omega (arith, tally_none o, ap (tally o) (numbers-delivered r.reset_at time (record r { recv = confirmed r.recv; owed = one_more_delivered time r.owed }))))
     in
-    flows_then 1 0 1 p one.ports (dropped seat.app one.ports).ports one.loose (dropped seat.app one.ports).loose [] (omega arith) first (flows_dropped seat.app one.ports few first.whole)
+    flows_then 1 0 1 p one.ports (dropped seat one.ports).ports one.loose (dropped seat one.ports).loose [] (omega arith) first (flows_dropped seat one.ports there first.whole)
 
 -- ---- packets
 
@@ -156,22 +156,22 @@ handing_by has p seat head b time =
     reporting (handing_event r b.trace.tag)
     (then (back_by (back_of (row_of r head b.payload) (anywhere b)) (is_stray (row_of r head b.payload)) p) (λ p.
     then (where_machine has (went r.state machine_why.Reset seat (after_packet head b.trace.tag (anywhere b) time r)) p) (λ p.
-    then (dropped seat.app p) (λ p.
-    come (settled time seat.app p)))))
+    then (dropped seat p) (λ p.
+    come (settled time seat p)))))
 
-handed_by : (has : Bool) (p : PlainPorts) (seat : Seat) (head : RdpHead) (b : Content) (time : ℕ) → has_machine p seat ≡ has → seat.app < 4 → place_of seat < 16 → AreWhole p → Flows 1 p (handing_by has p seat head b time).ports (handing_by has p seat head b time).loose (b.number ∷ [])
+handed_by : (has : Bool) (p : PlainPorts) (seat : Seat) (head : RdpHead) (b : Content) (time : ℕ) → has_machine p seat ≡ has → place_of seat < 16 → AreWhole p → Flows 1 p (handing_by has p seat head b time).ports (handing_by has p seat head b time).loose (b.number ∷ [])
 -- a slot without a machine has no use for it
-handed_by false p seat head b time none few there h =
+handed_by false p seat head b time none there h =
     let r = machine_at p seat in
     let back = pictures (option_to_list (back_of (row_of r head b.payload) (anywhere b))) in
     let is : back ≡ b ∷ [] = ap (λ (q : PlainRdp). pictures (option_to_list (back_of (row_of q head b.payload) (anywhere b)))) (machine_none p seat none) in
-    let two = dropped seat.app p in
-    let last = settled time seat.app two.ports in
-    let second = flows_then 0 0 0 p p two.ports (b ∷ []) two.loose (b.number ∷ []) (omega arith) (flows_lost 0 p b h) (flows_dropped seat.app p few h) in
-    let third = flows_then 0 1 1 p two.ports last ((b ∷ []) ++ two.loose) [] (b.number ∷ []) (omega arith) second (flows_settled time seat.app two.ports few second.whole) in
+    let two = dropped seat p in
+    let last = settled time seat two.ports in
+    let second = flows_then 0 0 0 p p two.ports (b ∷ []) two.loose (b.number ∷ []) (omega arith) (flows_lost 0 p b h) (flows_dropped seat p there h) in
+    let third = flows_then 0 1 1 p two.ports last ((b ∷ []) ++ two.loose) [] (b.number ∷ []) (omega arith) second (flows_settled time seat two.ports there second.whole) in
     subst (λ (cs : List Content). Flows 1 p last (cs ++ (two.loose ++ [])) (b.number ∷ [])) (sym is)
     (subst (λ (cs : List Content). Flows 1 p last cs (b.number ∷ [])) (append_assoc (b ∷ []) two.loose []) third)
-handed_by true p seat head b time some few there h =
+handed_by true p seat head b time some there h =
     let r = machine_at p seat in
     let row = row_of r head b.payload in
     let new = after_packet head b.trace.tag (anywhere b) time r in
@@ -180,8 +180,8 @@ handed_by true p seat head b time some few there h =
     let one = went r.state machine_why.Reset seat new p in
     let q = with_machine p seat (rested new) in
     let also = (changed (change_between r.state new.state machine_why.Reset) seat q).loose in
-    let two = dropped seat.app one.ports in
-    let last = settled time seat.app two.ports in
+    let two = dropped seat one.ports in
+    let last = settled time seat two.ports in
     let first =
     flows_went 0 p seat r.state machine_why.Reset new back (b.number ∷ []) there h (whole-handed row head b.trace.tag (anywhere b) time r refl whole) (λ n far. machine_later n (n + 0) new (omega arith) (far-after n row head b.trace.tag (anywhere b) time r far))
     (λ o. omega (
@@ -192,8 +192,8 @@ handed_by true p seat head b time some few there h =
       back_tally o (back_of row (anywhere b)),
     ))
     in
-    let second = flows_then 0 0 0 p one.ports two.ports ((back ++ pictures (unneeded new)) ++ also) two.loose (b.number ∷ []) (omega arith) first (flows_dropped seat.app one.ports few first.whole) in
-    let third = flows_then 0 1 1 p two.ports last (((back ++ pictures (unneeded new)) ++ also) ++ two.loose) [] (b.number ∷ []) (omega arith) second (flows_settled time seat.app two.ports few second.whole) in
+    let second = flows_then 0 0 0 p one.ports two.ports ((back ++ pictures (unneeded new)) ++ also) two.loose (b.number ∷ []) (omega arith) first (flows_dropped seat one.ports there first.whole) in
+    let third = flows_then 0 1 1 p two.ports last (((back ++ pictures (unneeded new)) ++ also) ++ two.loose) [] (b.number ∷ []) (omega arith) second (flows_settled time seat two.ports there second.whole) in
     let same : (((back ++ pictures (unneeded new)) ++ also) ++ two.loose) ++ [] ≡ back ++ ((pictures (unneeded new) ++ also) ++ (two.loose ++ [])) =
     append_assoc ((back ++ pictures (unneeded new)) ++ also) two.loose []
     ∙ (ap (λ (cs : List Content). cs ++ (two.loose ++ [])) (append_assoc back (pictures (unneeded new)) also)
@@ -202,23 +202,23 @@ handed_by true p seat head b time some few there h =
     subst (λ (cs : List Content). Flows 1 p last cs (b.number ∷ [])) same third
 
 -- one is handed to a machine
-pub flows_handed : (p : PlainPorts) (seat : Seat) (head : RdpHead) (b : Content) (time : ℕ) → seat.app < 4 → place_of seat < 16 → AreWhole p → Flows 1 p (handing p seat head b time).ports (handing p seat head b time).loose (b.number ∷ [])
-flows_handed p seat head b time few there h = handed_by (has_machine p seat) p seat head b time refl few there h
+pub flows_handed : (p : PlainPorts) (seat : Seat) (head : RdpHead) (b : Content) (time : ℕ) → place_of seat < 16 → AreWhole p → Flows 1 p (handing p seat head b time).ports (handing p seat head b time).loose (b.number ∷ [])
+flows_handed p seat head b time there h = handed_by (has_machine p seat) p seat head b time refl there h
 
 -- one that an application sends
-flows_admitting : (room : Bool) (p : PlainPorts) (time : ℕ) (seat : Seat) (b : Content) → seat.app < 4 → seat.slot < 4 → AreWhole p → stalled_at p seat.app ≡ None → Flows 1 p (admitting_by room p seat b time) [] (b.number ∷ [])
-flows_admitting true p time seat b few there h none = flows_admitted p time seat (anywhere b) (omega (arith, few, there)) h
-flows_admitting false p time seat b few there h none =
-    let v : Option PlainStalled = Some (record { slot = seat.slot; buffer = anywhere b }) in
-    let one = flows_stalled p seat.app v [] (b.number ∷ []) few h there (λ o. omega (arith, tally_none o, ap (λ (w : Option PlainStalled). weight o (stalled_buffers w)) none)) in
-    record { counts = one.counts; far = λ n k. far_later (n + 0) (n + 1) (with_stalled p seat.app v) (omega arith) (one.far n k); whole = one.whole }
+flows_admitting : (room : Bool) (p : PlainPorts) (time : ℕ) (seat : Seat) (b : Content) → place_of seat < 16 → AreWhole p → stalled_at p seat ≡ None → Flows 1 p (admitting_by room p seat b time) [] (b.number ∷ [])
+flows_admitting true p time seat b there h none = flows_admitted p time seat (anywhere b) there h
+flows_admitting false p time seat b there h none =
+    let v : Option PlainBuffer = Some (anywhere b) in
+    let one = flows_stalled p seat v [] (b.number ∷ []) there h (λ o. omega (arith, tally_none o, ap (λ (w : Option PlainBuffer). weight o (option_to_list w)) none)) in
+    record { counts = one.counts; far = λ n k. far_later (n + 0) (n + 1) (with_stalled p seat v) (omega arith) (one.far n k); whole = one.whole }
 
-pub flows_submitted : (st : State) (p : PlainPorts) (seat : Seat) (b : Content) (time : ℕ) → seat.app < 4 → seat.slot < 4 → AreWhole p → stalled_at p seat.app ≡ None → Flows 1 p (submitting_in st p seat b time).ports (submitting_in st p seat b time).loose (b.number ∷ [])
-flows_submitted Open p seat b time few there h none = flows_admitting (has_room (machine_at p seat)) p time seat b few there h none
-flows_submitted SynSent p seat b time few there h none = flows_lost 1 p b h
-flows_submitted SynRcvd p seat b time few there h none = flows_lost 1 p b h
-flows_submitted CloseWait p seat b time few there h none = flows_lost 1 p b h
-flows_submitted Closed p seat b time few there h none = flows_lost 1 p b h
+pub flows_submitted : (st : State) (p : PlainPorts) (seat : Seat) (b : Content) (time : ℕ) → place_of seat < 16 → AreWhole p → stalled_at p seat ≡ None → Flows 1 p (submitting_in st p seat b time).ports (submitting_in st p seat b time).loose (b.number ∷ [])
+flows_submitted Open p seat b time there h none = flows_admitting (has_room (machine_at p seat)) p time seat b there h none
+flows_submitted SynSent p seat b time there h none = flows_lost 1 p b h
+flows_submitted SynRcvd p seat b time there h none = flows_lost 1 p b h
+flows_submitted CloseWait p seat b time there h none = flows_lost 1 p b h
+flows_submitted Closed p seat b time there h none = flows_lost 1 p b h
 
 -- ---- connections that begin
 
@@ -246,12 +246,12 @@ flows_joined : (o : OwnFlows) (p : PlainPorts) (r : Request) (own time : ℕ) (r
 flows_joined o p r own time false h =
     let q = (plain p r own).ports in
     let t : Terms = record (terms_at p r.seat) { prio = r.prio; flags = r.flags; wish = wish.Nothing; is_down = false } in
-    flows_still 1 p q (opened_apps own r.from (with_slot p.conns r.seat (Opened (between r.dest r.port own)))) (machines_of_terms p r.seat t) refl (λ n k. linked_far n 1 p q r.seat t (machines_of_terms p r.seat t) refl refl (omega arith) k) h
+    flows_still 1 p q (opened_apps own r.from (with_slot p.conns r.seat (Opened (between r.dest r.port own)))) (machines_of_terms p r.seat t) (held_terms p r.seat t) (λ n k. linked_far n 1 p q r.seat t (machines_of_terms p r.seat t) refl refl (omega arith) k) h
 flows_joined o p r own time true h =
     let q : PlainPorts = record (linked wish.Connection p r own) { made = p.made + 1 } in
     let machine = connecting (start_of o.seed p.made) o.options o.node p.made time in
     let t : Terms = record (terms_at p r.seat) { prio = r.prio; flags = r.flags; wish = wish.Connection; is_down = false } in
-    let first = flows_still 1 p q (opened_apps own r.from (with_slot p.conns r.seat (Opened (between r.dest r.port own)))) (machines_of_terms p r.seat t) refl (λ n k. linked_far n 1 p q r.seat t (machines_of_terms p r.seat t) refl refl (omega arith) k) h in
+    let first = flows_still 1 p q (opened_apps own r.from (with_slot p.conns r.seat (Opened (between r.dest r.port own)))) (machines_of_terms p r.seat t) (held_terms p r.seat t) (λ n k. linked_far n 1 p q r.seat t (machines_of_terms p r.seat t) refl refl (omega arith) k) h in
     flows_then 1 0 1 p q (with_machine q r.seat machine) [] (pictures (rdp_buffers (machine_at q r.seat))) [] (omega arith) first
     (flows_replaced q r.seat (Some machine) (connecting_whole (start_of o.seed p.made) o.node p.made time o) (record { admitted = omega arith; delivered = omega arith }) refl first.whole)
 
@@ -276,7 +276,7 @@ flows_invited o p seat c prio flags i time h =
     let q : PlainPorts = record (accepted p seat c prio flags) { made = p.made + 1 } in
     let machine = accepting (start_of o.seed p.made) i.options i.head.seq.0 i.tag o.node p.made time in
     let t : Terms = record (terms_at p seat) { prio = prio; flags = flags; wish = wish.Nothing; is_down = false } in
-    let first = flows_still 1 p q refl (machines_of_terms p seat t) refl (λ n k. linked_far n 1 p q seat t (machines_of_terms p seat t) refl refl (omega arith) k) h in
+    let first = flows_still 1 p q refl (machines_of_terms p seat t) (held_terms p seat t) (λ n k. linked_far n 1 p q seat t (machines_of_terms p seat t) refl refl (omega arith) k) h in
     flows_then 1 0 1 p q (with_machine q seat machine) [] (pictures (rdp_buffers (machine_at q seat))) [] (omega arith) first
     (flows_replaced q seat (Some machine) (record { unopened = (refl, refl); ordered = tt }) (record { admitted = omega arith; delivered = omega arith }) refl first.whole)
 
@@ -287,11 +287,11 @@ far_wish n p seat w h = far_terms n p seat (record (terms_at p seat) { wish = w 
 
 flows_ending : (st : State) (seat : Seat) (p : PlainPorts) → AreWhole p → Flows 0 p (ending_in st seat p) [] []
 flows_ending Closed seat p h =
-    flows_still 0 p (ended seat p) refl (machines_of_terms p seat (record (terms_at p seat) { wish = wish.Ended })) refl (no_further p (ended seat p) (λ n k. let w = far_wish n p seat wish.Ended k in record { machines = w.machines; made = w.made; ends = w.ends })) h
-flows_ending SynSent seat p h = flows_still 0 p (wishing p seat wish.End) refl (machines_of_terms p seat (record (terms_at p seat) { wish = wish.End })) refl (no_further p (wishing p seat wish.End) (λ n k. far_wish n p seat wish.End k)) h
-flows_ending SynRcvd seat p h = flows_still 0 p (wishing p seat wish.End) refl (machines_of_terms p seat (record (terms_at p seat) { wish = wish.End })) refl (no_further p (wishing p seat wish.End) (λ n k. far_wish n p seat wish.End k)) h
-flows_ending Open seat p h = flows_still 0 p (wishing p seat wish.End) refl (machines_of_terms p seat (record (terms_at p seat) { wish = wish.End })) refl (no_further p (wishing p seat wish.End) (λ n k. far_wish n p seat wish.End k)) h
-flows_ending CloseWait seat p h = flows_still 0 p (wishing p seat wish.End) refl (machines_of_terms p seat (record (terms_at p seat) { wish = wish.End })) refl (no_further p (wishing p seat wish.End) (λ n k. far_wish n p seat wish.End k)) h
+    flows_still 0 p (ended seat p) refl (machines_of_terms p seat (record (terms_at p seat) { wish = wish.Ended })) (held_terms p seat (record (terms_at p seat) { wish = wish.Ended })) (no_further p (ended seat p) (λ n k. let w = far_wish n p seat wish.Ended k in record { machines = w.machines; made = w.made; ends = w.ends })) h
+flows_ending SynSent seat p h = flows_still 0 p (wishing p seat wish.End) refl (machines_of_terms p seat (record (terms_at p seat) { wish = wish.End })) (held_terms p seat (record (terms_at p seat) { wish = wish.End })) (no_further p (wishing p seat wish.End) (λ n k. far_wish n p seat wish.End k)) h
+flows_ending SynRcvd seat p h = flows_still 0 p (wishing p seat wish.End) refl (machines_of_terms p seat (record (terms_at p seat) { wish = wish.End })) (held_terms p seat (record (terms_at p seat) { wish = wish.End })) (no_further p (wishing p seat wish.End) (λ n k. far_wish n p seat wish.End k)) h
+flows_ending Open seat p h = flows_still 0 p (wishing p seat wish.End) refl (machines_of_terms p seat (record (terms_at p seat) { wish = wish.End })) (held_terms p seat (record (terms_at p seat) { wish = wish.End })) (no_further p (wishing p seat wish.End) (λ n k. far_wish n p seat wish.End k)) h
+flows_ending CloseWait seat p h = flows_still 0 p (wishing p seat wish.End) refl (machines_of_terms p seat (record (terms_at p seat) { wish = wish.End })) (held_terms p seat (record (terms_at p seat) { wish = wish.End })) (no_further p (wishing p seat wish.End) (λ n k. far_wish n p seat wish.End k)) h
 
 -- by its application
 flows_held : (free : Bool) (p : PlainPorts) (seat : Seat) → AreWhole p → Flows 0 p (held_by free p seat) [] [] × (machine_at (held_by free p seat) seat ≡ machine_at p seat)
@@ -345,25 +345,29 @@ flows_answered p h = flows_answered_by p.owed p h
 
 -- ---- the end of a run: buffers are taken out
 
+far_out : (n : ℕ) (s : SlotState) (o : Option PlainBuffer) → IsFar n (machine_in s) → IsFar n (machine_in (handed_out o s))
+far_out n s (Some b) h = h
+far_out n s None h = subst (IsFar n) (sym (taken_machine s)) (far-taken-out n (machine_in s) h)
+
 far_without : (n : ℕ) (ss : List SlotState) → All (IsFar n) (map machine_in ss) → All (IsFar n) (map machine_in (without_held ss))
 far_without n [] all = all
 far_without n (s ∷ ss) all = go (slot_buffers s) (far_without n ss (All-tail (IsFar n) (machine_in s) (map machine_in ss) all))
   where
-    go : (bs : List PlainBuffer) → All (IsFar n) (map machine_in (without_held ss)) → All (IsFar n) (map machine_in (first_out bs s ss (without_held ss)))
-    go [] rest = All-cons (IsFar n) (machine_in s) (map machine_in (without_held ss)) (All-head (IsFar n) (machine_in s) (map machine_in ss) all) rest
-    go (b ∷ bs) rest =
-        let out = subst (IsFar n) (sym (taken_machine s)) (far-taken-out n (machine_in s) (All-head (IsFar n) (machine_in s) (map machine_in ss) all)) in
-        All-cons (IsFar n) (machine_in (record s { machine = option_map taken_out s.machine })) (map machine_in ss) out (All-tail (IsFar n) (machine_in s) (map machine_in ss) all)
+    head : IsFar n (machine_in s)
+    head = All-head (IsFar n) (machine_in s) (map machine_in ss) all
 
-far_emptied : (n : ℕ) (bs : List PlainBuffer) (p : PlainPorts) → AreFar n p → AreFar n (emptied_by bs p)
-far_emptied n (b ∷ bs) p h = record { machines = h.machines; made = h.made; ends = h.ends }
-far_emptied n [] p h = record { machines = far_without n p.slots h.machines; made = h.made; ends = subst (All (λ t. t.ordinal ≤ n)) (sym (terms-without p.slots)) h.ends }
+    go : (bs : List PlainBuffer) → All (IsFar n) (map machine_in (without_held ss)) → All (IsFar n) (map machine_in (first_out bs s ss (without_held ss)))
+    go [] rest = All-cons (IsFar n) (machine_in s) (map machine_in (without_held ss)) head rest
+    go (b ∷ bs) rest = All-cons (IsFar n) (machine_in (handed_out s.stalled s)) (map machine_in ss) (far_out n s s.stalled head) (All-tail (IsFar n) (machine_in s) (map machine_in ss) all)
+
+far_emptied : (n : ℕ) (p : PlainPorts) → AreFar n p → AreFar n (emptied p)
+far_emptied n p h = record { machines = far_without n p.slots h.machines; made = h.made; ends = subst (All (λ t. t.ordinal ≤ n)) (sym (terms-without p.slots)) h.ends }
 
 pub keeps_out : (old new : PortsAt) (b : Content) → held old.ports ≡ b ∷ held new.ports → new ≡ with_ports_at old (emptied old.ports) → Keeps 0 (at_hand old.ports []) (at_hand new.ports (b ∷ [])) []
 keeps_out old new b e is = record {
   numbers = λ k. omega (arith, ap (weigh (Some k)) e, weigh_append (Some k) (b ∷ []) (held new.ports));
   size = omega (arith, ap length e);
-  far = λ n h. subst (λ (x : PortsAt). AreFar (n + 0) x.ports) (sym is) (far_later n (n + 0) (emptied old.ports) (omega arith) (far_emptied n (flat_map stalled_buffers old.ports.stalled) old.ports h));
+  far = λ n h. subst (λ (x : PortsAt). AreFar (n + 0) x.ports) (sym is) (far_later n (n + 0) (emptied old.ports) (omega arith) (far_emptied n old.ports h));
 }
 
 pub keeps_out_or : (old new : PortsAt) (o : Option PlainBuffer) → MatchOption o ((held old.ports ≡ []) × (new ≡ old)) (λ b. held old.ports ≡ b.picture ∷ held new.ports) → new ≡ with_ports_at old (emptied old.ports)

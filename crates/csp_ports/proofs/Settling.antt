@@ -1,11 +1,12 @@
 -- the packet that waits for room, by cases
 use Rattle.std.specs.Prelude.{Bool, None, Option, Some, cond, false, true, unwrap_or}
 use Rattle.std.specs.Option.{option_map}
-use Rattle.std.proofs.Common.{◌≡◌, ℕ, refl, subst, sym, ◌∙◌}
-use Rattle.csp_base.specs.Seat.{seat}
+use Rattle.std.proofs.Common.{◌≡◌, ℕ, refl, sym, ◌∙◌}
+use Rattle.csp_base.specs.declared.seat.Seat.{Seat}
+use Rattle.csp_buffer.specs.PlainBuffer.{PlainBuffer}
 use Rattle.csp_log.specs.declared.event.Discard.TheVariants as why
 use Rattle.csp_ports.specs.Came.{Came, come, discarding}
-use Rattle.csp_ports.specs.PlainPorts.{PlainPorts, PlainStalled, is_open, machine_at, stalled_at, with_stalled}
+use Rattle.csp_ports.specs.PlainPorts.{PlainPorts, is_open, machine_at, stalled_at, with_stalled}
 use Rattle.csp_ports.specs.Steps.{admitted, dropped, has_room, settled}
 
 -- what holds by each case of an option
@@ -28,18 +29,16 @@ pub true_false : true ≡ false → ⊥
 true_false e = cc
 
 -- what holds of the ports, and of those with the packet admitted where there is room
-pub by_settled : (P : PlainPorts → Type 0) (time app : ℕ) (p : PlainPorts) → P p
-    → ((s : PlainStalled) → stalled_at p app ≡ Some s → has_room (machine_at p (seat app s.slot)) ≡ true → P (admitted time (seat app s.slot) s.buffer (with_stalled p app None))) → P (settled time app p)
-by_settled P time app p stays goes =
-    by_option P (λ s. cond (has_room (machine_at p (seat app s.slot))) (admitted time (seat app s.slot) s.buffer (with_stalled p app None)) p) (stalled_at p app) p (λ e. stays)
-    (λ s e. by_cond P (has_room (machine_at p (seat app s.slot))) (admitted time (seat app s.slot) s.buffer (with_stalled p app None)) p (goes s e) (λ f. stays))
+pub by_settled : (P : PlainPorts → Type 0) (time : ℕ) (seat : Seat) (p : PlainPorts) → P p
+    → ((b : PlainBuffer) → stalled_at p seat ≡ Some b → has_room (machine_at p seat) ≡ true → P (admitted time seat b (with_stalled p seat None))) → P (settled time seat p)
+by_settled P time seat p stays goes =
+    by_option P (λ b. cond (has_room (machine_at p seat)) (admitted time seat b (with_stalled p seat None)) p) (stalled_at p seat) p (λ e. stays)
+    (λ b e. by_cond P (has_room (machine_at p seat)) (admitted time seat b (with_stalled p seat None)) p (goes b e) (λ f. stays))
 
--- what holds where each packet that waits is one for an open connection, and where one that is not is discarded
-pub by_dropped : (P : Came → Type 0) (app : ℕ) (p : PlainPorts) → (((s : PlainStalled) → stalled_at p app ≡ Some s → is_open (machine_at p (seat app s.slot)).state ≡ true) → P (come p))
-    → ((s : PlainStalled) → stalled_at p app ≡ Some s → is_open (machine_at p (seat app s.slot)).state ≡ false → P (discarding why.NoConn s.buffer.picture (with_stalled p app None))) → P (dropped app p)
-by_dropped P app p stays goes =
-    by_option P (λ s. cond (is_open (machine_at p (seat app s.slot)).state) (come p) (discarding why.NoConn s.buffer.picture (with_stalled p app None))) (stalled_at p app) (come p)
-    (λ e. stays (λ t f. absurd (none_some t (sym e ∙ f))))
-    (λ s e. by_cond P (is_open (machine_at p (seat app s.slot)).state) (come p) (discarding why.NoConn s.buffer.picture (with_stalled p app None))
-    (λ opens. stays (λ t f. subst (λ (u : PlainStalled). is_open (machine_at p (seat app u.slot)).state ≡ true) (some_same s t (sym e ∙ f)) opens))
-    (goes s e))
+-- what holds where the packet that waits is one for an open connection, and where one that is not is discarded
+pub by_dropped : (P : Came → Type 0) (seat : Seat) (p : PlainPorts) → (((b : PlainBuffer) → stalled_at p seat ≡ Some b → is_open (machine_at p seat).state ≡ true) → P (come p))
+    → ((b : PlainBuffer) → stalled_at p seat ≡ Some b → is_open (machine_at p seat).state ≡ false → P (discarding why.NoConn b.picture (with_stalled p seat None))) → P (dropped seat p)
+by_dropped P seat p stays goes =
+    by_option P (λ b. cond (is_open (machine_at p seat).state) (come p) (discarding why.NoConn b.picture (with_stalled p seat None))) (stalled_at p seat) (come p)
+    (λ e. stays (λ b f. absurd (none_some b (sym e ∙ f))))
+    (λ b e. by_cond P (is_open (machine_at p seat).state) (come p) (discarding why.NoConn b.picture (with_stalled p seat None)) (λ opens. stays (λ c f. opens)) (goes b e))

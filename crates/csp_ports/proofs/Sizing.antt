@@ -1,11 +1,11 @@
 -- how many buffers ports hold
 use Rattle.std.specs.Prelude.{IfSome, None, Option, Some, get_or, unwrap_or}
-use Rattle.std.specs.Option.{option_map}
+use Rattle.std.specs.Option.{option_map, option_to_list}
 use Rattle.std.proofs.Common.{◌≡◌, ℕ, ◌+◌, ◌<◌, ◌≤◌, [], length, arith, ap, refl, sym, ◌∙◌}
 use Rattle.std.proofs.lemmas.List.{length-map}
 use Rattle.csp_conn.specs.PlainConns.{place_of}
 use Rattle.csp_ports.specs.Came.{pictures}
-use Rattle.csp_ports.specs.Held.{held, stalled_buffers}
+use Rattle.csp_ports.specs.Held.{held}
 use Rattle.csp_ports.specs.PlainPorts.{PlainPorts, PortsAt, machine_at, machine_in, stalled_at, with_machine_or, with_stalled}
 use Rattle.csp_ports.specs.declared.terms.SlotState.{SlotState}
 use Rattle.csp_rdp.specs.Holding.{rdp_buffers, rdp_numbers}
@@ -82,13 +82,13 @@ pub joined_count : (r : PlainRdp) → length (pictures (rdp_buffers (placed nowh
 joined_count r = omega (arith, long (pictures (rdp_buffers (placed nowhere r))), machine_tally None (placed nowhere r), placed_count nowhere r)
 
 -- the packet that waits in a place goes
-pub stalled_size : (p : PlainPorts) (app : ℕ) → app < length p.stalled → length (held (with_stalled p app None)) + length (stalled_buffers (stalled_at p app)) ≡ length (held p)
-stalled_size p app there =
+pub stalled_size : (p : PlainPorts) (seat : Seat) → place_of seat < length p.slots → length (held (with_stalled p seat None)) + length (option_to_list (stalled_at p seat)) ≡ length (held p)
+stalled_size p seat there =
     omega (
       arith,
-      waiting_tallied None p app None there,
+      waiting_tallied None p seat None there,
       long (held p),
-      long (held (with_stalled p app None)),
-      long (pictures (stalled_buffers (stalled_at p app))),
-      length-map (stalled_buffers (stalled_at p app)) (λ b. b.picture),
+      long (held (with_stalled p seat None)),
+      long (pictures (option_to_list (stalled_at p seat))),
+      length-map (option_to_list (stalled_at p seat)) (λ b. b.picture),
     )

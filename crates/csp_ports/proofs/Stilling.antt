@@ -1,12 +1,10 @@
 -- where no timer has anything to do, trying the timers changes nothing
-use Rattle.std.specs.Prelude.{◌||◌, Bool, false, true, not, is_some, unwrap_or, slice_set, Option, None, Some, get_or}
+use Rattle.std.specs.Prelude.{◌||◌, ◌&&◌, Bool, false, true, not, is_some, unwrap_or, slice_set, Option, None, Some, get_or}
 use Rattle.std.specs.List.{All, list_any, range_with_len}
-use Rattle.std.specs.Option.{option_map}
 use Rattle.std.proofs.Common.{◌≡◌, ℕ, zero, suc, ◌+◌, ◌-◌, ◌*◌, ◌<◌, List, [], ◌∷◌, ◌++◌, map, refl, ap, ap₂, subst, sym, ◌∙◌}
 use Rattle.std.proofs.lemmas.Bool.{or_parts}
 use Rattle.std.proofs.lemmas.List.{set-get_or}
 use Rattle.std.proofs.lemmas.List.Elements.{All-head, All-map, All-tail, All-weaker}
-use Rattle.csp_base.specs.Seat.{seat}
 use Rattle.csp_base.specs.declared.seat.Seat.{Seat}
 use Rattle.csp_buffer.specs.PlainBuffer.{PlainBuffer}
 use Rattle.csp_conn.specs.PlainConns.{place_of, seat_of}
@@ -14,15 +12,15 @@ use Rattle.csp_base.specs.declared.limits.TheConstants.{SLOTS}
 use Rattle.csp_deck.specs.Regions.{nowhere}
 use Rattle.csp_ports.proofs.Following.{range_next}
 use Rattle.csp_ports.specs.Came.{Came, come, pictures, then}
-use Rattle.csp_ports.specs.Kept.{ArePorts, plain_ports, ports_at}
-use Rattle.csp_ports.specs.PlainPorts.{PlainPorts, PlainStalled, PortsAt, has_machine, is_open, machine_at, machine_in, machines_of, stalled_at, state_at, untouched, with_machine}
+use Rattle.csp_ports.specs.Kept.{ArePorts, IsKept, plain_ports, ports_at}
+use Rattle.csp_ports.specs.PlainPorts.{PlainPorts, PortsAt, has_machine, machine_at, machine_in, machines_of, state_at, untouched, with_machine}
 use Rattle.csp_ports.specs.declared.terms.SlotState.{SlotState}
-use Rattle.csp_ports.proofs.Holding.{AreHoused, machine-housed}
+use Rattle.csp_ports.proofs.Holding.{machine-housed}
 use Rattle.csp_ports.proofs.Settling.{by_dropped, true_false}
 use Rattle.csp_ports.proofs.Slots.{machine_listed, placed_machine, placed_state}
 use Rattle.csp_arena.specs.Cells.{RegionName}
 use Rattle.csp_ports.specs.Quiet.{any_stranded, any_times_out, is_stranded, times_out_at}
-use Rattle.csp_ports.specs.Steps.{changed, dropped, dropped_of, stepped, timed, timed_at, timed_in, went, where_machine}
+use Rattle.csp_ports.specs.Steps.{changed, dropped, dropped_in, stepped, timed, timed_at, timed_in, went, where_machine}
 use Rattle.csp_ports.specs.declared.ports.Ports.TheInside.{Inside}
 use Rattle.csp_rdp.proofs.Public.{rested-still, placed-unneeded, in_time}
 use Rattle.csp_rdp.specs.Changes.{change_between}
@@ -84,27 +82,20 @@ rest_at [] k h = refl
 rest_at (m ∷ ms) zero h = All-head (λ r. unneeded r ≡ []) m ms h
 rest_at (m ∷ ms) (suc k) h = rest_at ms k (All-tail (λ r. unneeded r ≡ []) m ms h)
 
-timed_in_still : (time : ℕ) (ks : List ℕ) (p : PlainPorts) → All (λ r. unneeded r ≡ []) (machines_of p) → list_any (times_out_at time p) ks ≡ false → timed_in time ks p ≡ come p
-timed_in_still time [] p rest late = refl
-timed_in_still time (k ∷ ks) p rest late =
-    let parts = or_parts (times_out_at time p k) (list_any (times_out_at time p) ks) late in
-    then_still (timed_at time (seat_of k) p) (timed_in time ks) p
-    (timed_still time (seat_of k) p parts.0 (subst (λ (r : PlainRdp). unneeded r ≡ []) (sym (machine_listed p (seat_of k))) (rest_at (machines_of p) (place_of (seat_of k)) rest)))
-    (timed_in_still time ks p rest parts.1)
+-- what is done at several places, one after another, changes nothing where it changes nothing at each of them
+in_still : (all_at : List ℕ → PlainPorts → Came) (one_at : ℕ → PlainPorts → Came) (p : PlainPorts) (test : ℕ → Bool) → all_at [] p ≡ come p → ((k : ℕ) (ks : List ℕ) → all_at (k ∷ ks) p ≡ (then) (one_at k p) (all_at ks))
+    → ((k : ℕ) → test k ≡ false → one_at k p ≡ come p) → (ks : List ℕ) → list_any test ks ≡ false → all_at ks p ≡ come p
+in_still all_at one_at p test none more one [] h = none
+in_still all_at one_at p test none more one (k ∷ ks) h =
+    let parts = or_parts (test k) (list_any test ks) h in
+    more k ks ∙ then_still (one_at k p) (all_at ks) p (one k parts.0) (in_still all_at one_at p test none more one ks parts.1)
 
 -- ---- the packets that wait
 
-stranded_shut : (p : PlainPorts) (app : ℕ) (s : PlainStalled) → stalled_at p app ≡ Some s → is_open (machine_at p (seat app s.slot)).state ≡ false → is_stranded p app ≡ true
-stranded_shut p app s e shut = ap (λ (o : Option PlainStalled). unwrap_or (option_map (λ s. not (is_open (machine_at p (seat app s.slot)).state)) o) false) e ∙ ap not shut
-
-dropped_still : (app : ℕ) (p : PlainPorts) → is_stranded p app ≡ false → dropped app p ≡ come p
-dropped_still app p h = by_dropped (λ c. c ≡ come p) app p (λ opens. refl) (λ s e shut. absurd (true_false (sym (stranded_shut p app s e shut) ∙ h)))
-
-dropped_of_still : (apps : List ℕ) (p : PlainPorts) → list_any (is_stranded p) apps ≡ false → dropped_of apps p ≡ come p
-dropped_of_still [] p h = refl
-dropped_of_still (app ∷ apps) p h =
-    let parts = or_parts (is_stranded p app) (list_any (is_stranded p) apps) h in
-    then_still (dropped app p) (dropped_of apps) p (dropped_still app p parts.0) (dropped_of_still apps p parts.1)
+dropped_still : (p : PlainPorts) (k : ℕ) → is_stranded p k ≡ false → dropped (seat_of k) p ≡ come p
+dropped_still p k h =
+    by_dropped (λ c. c ≡ come p) (seat_of k) p (λ opens. refl)
+    (λ b e shut. absurd (true_false (sym (ap₂ (λ (o : Option PlainBuffer) (s : Bool). is_some o && not s) e shut) ∙ h)))
 
 -- ---- all
 
@@ -114,20 +105,22 @@ passed test a n inside fails = sym (ap (list_any test) (range_next a n inside) �
 
 pub quiet_still : (time : ℕ) (p : PlainPorts) → All (λ r. unneeded r ≡ []) (machines_of p) → any_times_out time p ≡ false → any_stranded p ≡ false → timed time p ≡ come p
 quiet_still time p rest late stranded =
-    then_still (timed_in time (range_with_len 0 (p.conns.apps * SLOTS)) p) (λ q. dropped_of (range_with_len 0 q.conns.apps) q) p
-    (timed_in_still time (range_with_len 0 (p.conns.apps * SLOTS)) p rest late)
-    (dropped_of_still (range_with_len 0 p.conns.apps) p stranded)
+    let all : List ℕ = range_with_len 0 (p.conns.apps * SLOTS) in
+    then_still (timed_in time all p) (λ q. dropped_in (range_with_len 0 (q.conns.apps * SLOTS)) q) p
+    (in_still (timed_in time) (λ k. timed_at time (seat_of k)) p (times_out_at time p) refl (λ k ks. refl)
+    (λ k early. timed_still time (seat_of k) p early (subst (λ (r : PlainRdp). unneeded r ≡ []) (sym (machine_listed p (seat_of k))) (rest_at (machines_of p) (place_of (seat_of k)) rest))) all late)
+    (in_still dropped_in (λ k. dropped (seat_of k)) p (is_stranded p) refl (λ k ks. refl) (dropped_still p) all stranded)
 
 -- ---- ports hold what they need alone
 
-rest_slot : (name : RegionName) (s : SlotState) → AreHoused name s → unneeded (machine_in (placed_state nowhere s)) ≡ []
-rest_slot name s h = ap unneeded (placed_machine nowhere s) ∙ (placed-unneeded nowhere (machine_in s) ∙ ap (map (placed_buffer nowhere)) (machine-housed name s h).rested)
+rest_slot : (name : RegionName) (s : SlotState) → IsKept name s → unneeded (machine_in (placed_state nowhere s)) ≡ []
+rest_slot name s h = ap unneeded (placed_machine nowhere s) ∙ (placed-unneeded nowhere (machine_in s) ∙ ap (map (placed_buffer nowhere)) (machine-housed name s h.housed).rested)
 
 rest_in : (p : Inside) → ArePorts p → All (λ r. unneeded r ≡ []) (machines_of (plain_ports p))
 rest_in p a =
     All-map (λ r. unneeded r ≡ []) machine_in (map (placed_state nowhere) p.slots.items)
     (All-map (λ (s : SlotState). unneeded (machine_in s) ≡ []) (placed_state nowhere) p.slots.items
-    (All-weaker (AreHoused p.token.name) (λ (s : SlotState). unneeded (machine_in (placed_state nowhere s)) ≡ []) (rest_slot p.token.name) p.slots.items a.housed))
+    (All-weaker (IsKept p.token.name) (λ (s : SlotState). unneeded (machine_in (placed_state nowhere s)) ≡ []) (rest_slot p.token.name) p.slots.items a.kept))
 
 pub rest_seen : (p : Inside) (at : PortsAt) → ports_at p ≡ at → ArePorts p → All (λ r. unneeded r ≡ []) (machines_of at.ports)
 rest_seen p at view a = subst (λ (x : PortsAt). All (λ r. unneeded r ≡ []) (machines_of x.ports)) view (rest_in p a)

@@ -94,12 +94,12 @@ admitted_now true answer u old new seat b time is h = h.1
 admitted_now false answer u old new seat b time is h = absurd (ok_err u b (sym is ∙ h.0))
 
 pub admitted_later : (room : Bool) (answer : Result Unit PlainBuffer) (back : PlainBuffer) (old mid new : PortsAt) (seat : Seat) (b : PlainBuffer) (time : ℕ) → answer ≡ Err back → AdmitsIn room answer old mid seat b time
-    → new ≡ with_ports_at mid (with_stalled mid.ports seat.app (Some (record { slot = seat.slot; buffer = anywhere back.picture }))) → new ≡ with_ports_at old (admitting_by room old.ports seat b.picture time)
+    → new ≡ with_ports_at mid (with_stalled mid.ports seat (Some (anywhere back.picture))) → new ≡ with_ports_at old (admitting_by room old.ports seat b.picture time)
 admitted_later true answer back old mid new seat b time is h k = absurd (ok_err tt back (sym h.0 ∙ is))
 admitted_later false answer back old mid new seat b time is h k =
     let same : back ≡ b = err_same back b (sym is ∙ h.0) in
-    k ∙ (ap (λ (x : PortsAt). with_ports_at x (with_stalled x.ports seat.app (Some (record { slot = seat.slot; buffer = anywhere back.picture })))) h.1
-    ∙ ap (λ (x : PlainBuffer). with_ports_at old (with_stalled old.ports seat.app (Some (record { slot = seat.slot; buffer = anywhere x.picture })))) same)
+    k ∙ (ap (λ (x : PortsAt). with_ports_at x (with_stalled x.ports seat (Some (anywhere back.picture)))) h.1
+    ∙ ap (λ (x : PlainBuffer). with_ports_at old (with_stalled old.ports seat (Some (anywhere x.picture)))) same)
 
 -- no more than one event
 pub stray_few : (o : Option PlainBuffer) (stray : Bool) → length (stray_events o stray) ≤ 1
@@ -131,5 +131,5 @@ submitted_comes old new trash later seat b time opened e l =
 
 -- ---- applications stay
 
-pub settled_apps : (time app : ℕ) (p : PlainPorts) → (settled time app p).conns.apps ≡ p.conns.apps
-settled_apps time app p = by_settled (λ q. q.conns.apps ≡ p.conns.apps) time app p refl (λ s e room. refl)
+pub settled_apps : (time : ℕ) (seat : Seat) (p : PlainPorts) → (settled time seat p).conns.apps ≡ p.conns.apps
+settled_apps time seat p = by_settled (λ q. q.conns.apps ≡ p.conns.apps) time seat p refl (λ b e room. refl)

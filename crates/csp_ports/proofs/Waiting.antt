@@ -1,18 +1,17 @@
 -- packets that wait for room, and what becomes of them
-use Rattle.std.specs.Prelude.{Bool, Err, None, Option, Result, Some, false, get_or, slice_set, true}
+use Rattle.std.specs.Prelude.{Bool, Err, None, Ok, Option, Result, Some, cond, false, get_or, slice_set, true, unwrap_or}
 use Rattle.std.specs.Option.{option_map}
 use Rattle.std.specs.Vec.{with_item}
 use Rattle.std.proofs.Common.{◌≡◌, ℕ, zero, suc, ◌<◌, List, [], ◌∷◌, ap, refl, subst, sym, ◌∙◌}
 use Rattle.std.proofs.lemmas.List.{set-get_or}
-use Rattle.csp_base.specs.Seat.{seat}
 use Rattle.csp_base.specs.declared.seat.Seat.{Seat}
 use Rattle.csp_buffer.specs.PlainBuffer.{PlainBuffer}
 use Rattle.csp_conn.specs.PlainConns.{place_of}
 use Rattle.csp_deck.specs.Regions.{nowhere}
 use Rattle.csp_ports.proofs.Keeping.{machine_in_place, machine_seen, machine_stepped}
-use Rattle.csp_ports.proofs.Settling.{by_settled, some_same, true_false}
+use Rattle.csp_ports.proofs.Slots.{machine_unstalled}
 use Rattle.csp_ports.specs.Kept.{Admits, ArePorts, ports_at}
-use Rattle.csp_ports.specs.PlainPorts.{PlainStalled, PortsAt, anywhere, machine_at, stalled_at, state_at, untouched, with_ports_at, with_stalled}
+use Rattle.csp_ports.specs.PlainPorts.{PlainPorts, PortsAt, anywhere, machine_at, stalled_at, stalls_of, state_at, untouched, with_ports_at, with_stalled}
 use Rattle.csp_ports.specs.declared.terms.SlotState.{SlotState}
 use Rattle.csp_ports.specs.Steps.{admitted, has_room, settled}
 use Rattle.csp_ports.specs.declared.ports.Ports.TheInside.{Inside}
@@ -44,38 +43,48 @@ admits_in p at seat place s r new b time answer view e there a value some h =
     subst (λ (room : Bool). AdmitsIn room answer at (ports_at (record p { slots = with_item p.slots place (record s { machine = Some new }) })) seat b time) (ap has_room (machine_seen p at seat place s r view e there a value some))
     (admits_by p at seat place s r new b time (has_room (placed nowhere r)) answer view e there a value some h)
 
-set_set : {X : Type 0} → (xs : List X) (i : ℕ) (a b : X) → slice_set (slice_set xs i a) i b ≡ slice_set xs i b
-set_set [] i a b = refl
-set_set (x ∷ xs) zero a b = refl
-set_set (x ∷ xs) (suc i) a b = ap (λ (l : List _). x ∷ l) (set_set xs i a b)
+-- where it is not admitted none waits as before
+pub none_left : (mid new : PortsAt) (seat : Seat) (b back : PlainBuffer) (time : ℕ) (room : Bool) → stalls_of seat.app mid.ports.slots ≡ 0 → AdmitsIn room (Err back) mid new seat b time → stalls_of seat.app new.ports.slots ≡ 0
+none_left mid new seat b back time true none h = absurd cc
+none_left mid new seat b back time false none h = ap (λ (x : PortsAt). stalls_of seat.app x.ports.slots) h.1 ∙ none
 
-none_set : {X : Type 0} → (xs : List (Option X)) (i : ℕ) → get_or (slice_set xs i None) i None ≡ None
-none_set [] i = refl
-none_set (x ∷ xs) zero = refl
-none_set (x ∷ xs) (suc i) = none_set xs i
+-- a packet that is taken out waits again
+put_back : (ss : List SlotState) (k : ℕ) → let gone = slice_set ss k (record (get_or ss k untouched) { stalled = None }) in slice_set gone k (record (get_or gone k untouched) { stalled = (get_or ss k untouched).stalled }) ≡ ss
+put_back [] k = refl
+put_back (s ∷ ss) zero = refl
+put_back (s ∷ ss) (suc k) = ap (λ (l : List SlotState). s ∷ l) (put_back ss k)
 
--- where it is not admitted none waits
-pub none_left : (old mid new : PortsAt) (seat : Seat) (b back : PlainBuffer) (time : ℕ) (room : Bool) → mid ≡ with_ports_at old (with_stalled old.ports seat.app None) → AdmitsIn room (Err back) mid new seat b time → stalled_at new.ports seat.app ≡ None
-none_left old mid new seat b back time true e h = absurd cc
-none_left old mid new seat b back time false e h = ap (λ (x : PortsAt). stalled_at x.ports seat.app) (h.1 ∙ e) ∙ none_set old.ports.stalled seat.app
+stalled_again : (p : PlainPorts) (seat : Seat) (o : Option PlainBuffer) → stalled_at p seat ≡ o → with_stalled (with_stalled p seat None) seat o ≡ p
+stalled_again p seat o e =
+    ap (λ (x : Option PlainBuffer). with_stalled (with_stalled p seat None) seat x) (sym e)
+    ∙ ap (λ (ss : List SlotState). record p { slots = ss }) (put_back p.slots (place_of seat))
 
--- and it waits again as it did
-settled_err_by : (old mid out new : PortsAt) (app : ℕ) (s : PlainStalled) (b back : PlainBuffer) (time : ℕ) (room : Bool) → mid ≡ with_ports_at old (with_stalled old.ports app None) → Some s ≡ stalled_at old.ports app → s.buffer ≡ anywhere b.picture → AdmitsIn room (Err back) mid out (seat app s.slot) b time
-    → new ≡ with_ports_at out (with_stalled out.ports app (Some (record { slot = s.slot; buffer = anywhere back.picture }))) → (room ≡ false) × (new ≡ old)
-settled_err_by old mid out new app s b back time true e waits same h put = absurd cc
-settled_err_by old mid out new app s b back time false e waits same h put =
-    let given : back ≡ b = cc in
-    let whole : Option PlainStalled = Some (record { slot = s.slot; buffer = anywhere back.picture }) in
-    let it : whole ≡ Some s = ap (λ (c : PlainBuffer). Some (record { slot = s.slot; buffer = c })) (ap (λ (c : PlainBuffer). anywhere c.picture) given ∙ sym same) in (
-      refl,
-      put
-          ∙ (ap (λ (x : PortsAt). with_ports_at x (with_stalled x.ports app whole)) (h.1 ∙ e)
-          ∙ ap (λ (ss : List (Option PlainStalled)). with_ports_at old (record old.ports { stalled = ss })) (set_set old.ports.stalled app None whole ∙ (ap (λ (o : Option PlainStalled). slice_set old.ports.stalled app o) (it ∙ waits) ∙ set-get_or old.ports.stalled app None))),
-    )
+-- and where none does none is taken out
+pub unstalled : (p : PlainPorts) (seat : Seat) → stalled_at p seat ≡ None → with_stalled p seat None ≡ p
+unstalled p seat e = ap (λ (ss : List SlotState). record p { slots = ss }) (ap (λ (o : Option PlainBuffer). slice_set p.slots (place_of seat) (record (state_at p seat) { stalled = o })) (sym e) ∙ set-get_or p.slots (place_of seat) untouched)
 
-pub settled_err : (old mid out new : PortsAt) (app : ℕ) (s : PlainStalled) (b back : PlainBuffer) (time : ℕ) → mid ≡ with_ports_at old (with_stalled old.ports app None) → Some s ≡ stalled_at old.ports app → s.buffer ≡ anywhere b.picture
-    → AdmitsIn (has_room (machine_at mid.ports (seat app s.slot))) (Err back) mid out (seat app s.slot) b time → new ≡ with_ports_at out (with_stalled out.ports app (Some (record { slot = s.slot; buffer = anywhere back.picture }))) → new ≡ with_ports_at old (settled time app old.ports)
-settled_err old mid out new app s b back time e waits same h put =
-    let k = settled_err_by old mid out new app s b back time _ e waits same h put in
-    let full : has_room (machine_at old.ports (seat app s.slot)) ≡ false = sym (ap (λ (x : PortsAt). has_room (machine_at x.ports (seat app s.slot))) e) ∙ k.0 in
-    k.1 ∙ by_settled (λ q. old ≡ with_ports_at old q) time app old.ports refl (λ t f room. absurd (true_false (sym room ∙ (ap (λ (u : PlainStalled). has_room (machine_at old.ports (seat app u.slot))) (sym (some_same s t (waits ∙ f))) ∙ full))))
+-- ---- the packet that waits at a slot is admitted where there is room
+
+-- what waited, and whether there is room
+abbrev settled_by : (time : ℕ) → Seat → PlainPorts → Option PlainBuffer → (room : Bool) → PlainPorts
+settled_by time seat p o room = unwrap_or (option_map (λ b. cond room (admitted time seat b (with_stalled p seat None)) p) o) p
+
+pub settled_none : (old mid : PortsAt) (seat : Seat) (time : ℕ) → mid ≡ with_ports_at old (with_stalled old.ports seat None) → stalled_at old.ports seat ≡ None → mid ≡ with_ports_at old (settled time seat old.ports)
+settled_none old mid seat time e none =
+    e ∙ ap (with_ports_at old) (unstalled old.ports seat none ∙ ap (λ (o : Option PlainBuffer). settled_by time seat old.ports o (has_room (machine_at old.ports seat))) (sym none))
+
+settled_some : (old mid out new : PortsAt) (seat : Seat) (b : PlainBuffer) (answer : Result Unit PlainBuffer) (time : ℕ) (room : Bool) → mid ≡ with_ports_at old (with_stalled old.ports seat None) → stalled_at old.ports seat ≡ Some (anywhere b.picture) → AdmitsIn room answer mid out seat b time
+    → (answer ≡ Ok tt → new ≡ out) → ((back : PlainBuffer) → answer ≡ Err back → new ≡ with_ports_at out (with_stalled out.ports seat (Some (anywhere back.picture)))) → new ≡ with_ports_at old (settled_by time seat old.ports (Some (anywhere b.picture)) room)
+settled_some old mid out new seat b answer time true e waits h ok err =
+    ok h.0 ∙ (h.1 ∙ ap (λ (x : PortsAt). with_ports_at x (admitted time seat (anywhere b.picture) x.ports)) e)
+settled_some old mid out new seat b answer time false e waits h ok err =
+    err b h.0 ∙ (ap (λ (x : PortsAt). with_ports_at x (with_stalled x.ports seat (Some (anywhere b.picture)))) (h.1 ∙ e)
+    ∙ ap (with_ports_at old) (stalled_again old.ports seat (Some (anywhere b.picture)) waits))
+
+-- and else it waits as it did
+pub settled_so : (old mid out new : PortsAt) (seat : Seat) (b : PlainBuffer) (answer : Result Unit PlainBuffer) (time : ℕ) → mid ≡ with_ports_at old (with_stalled old.ports seat None) → Some (anywhere b.picture) ≡ stalled_at old.ports seat → AdmitsIn (has_room (machine_at mid.ports seat)) answer mid out seat b time
+    → (answer ≡ Ok tt → new ≡ out) → ((back : PlainBuffer) → answer ≡ Err back → new ≡ with_ports_at out (with_stalled out.ports seat (Some (anywhere back.picture)))) → new ≡ with_ports_at old (settled time seat old.ports)
+settled_so old mid out new seat b answer time e waits h ok err =
+    settled_some old mid out new seat b answer time (has_room (machine_at mid.ports seat)) e (sym waits) h ok err
+    ∙ (ap (λ (r : PlainRdp). with_ports_at old (settled_by time seat old.ports (Some (anywhere b.picture)) (has_room r))) (ap (λ (x : PortsAt). machine_at x.ports seat) e ∙ machine_unstalled old.ports seat None seat)
+    ∙ ap (λ (o : Option PlainBuffer). with_ports_at old (settled_by time seat old.ports o (has_room (machine_at old.ports seat)))) waits)

@@ -1,6 +1,5 @@
 -- machines that are whole
-use Rattle.std.specs.Prelude.{◌==◌, Bool, true, false, IfSome, None, Option, Some, if◌then◌else◌}
-use Rattle.std.specs.Option.{option_map}
+use Rattle.std.specs.Prelude.{◌==◌, Bool, true, false, Some, if◌then◌else◌}
 use Rattle.std.proofs.Common.{◌≡◌, ℕ, ◌<◌, List, [], ◌∷◌, map, arith, ap, subst, sym, ◌∙◌}
 use Rattle.std.proofs.lemmas.List.{length-map}
 use Rattle.std.proofs.lemmas.List.Elements.{All-map, All-weaker}
@@ -8,16 +7,14 @@ use Rattle.csp_base.specs.declared.seat.Seat.{Seat}
 use Rattle.csp_arena.specs.Cells.{RegionName}
 use Rattle.csp_buffer.specs.PlainBuffer.{PlainBuffer}
 use Rattle.csp_conn.specs.PlainConns.{IsThere, place_of}
-use Rattle.csp_base.specs.declared.limits.TheConstants.{SLOTS}
 use Rattle.csp_deck.specs.Regions.{nowhere}
 use Rattle.csp_ports.specs.Keeps.{AreWhole}
-use Rattle.csp_ports.specs.Kept.{ArePorts, IsWaiting, plain_ports, ports_at, stalled_of}
-use Rattle.csp_ports.specs.PlainPorts.{PlainPorts, PlainStalled, PortsAt, machine_in}
+use Rattle.csp_ports.specs.Kept.{ArePorts, IsKept, plain_ports, ports_at}
+use Rattle.csp_ports.specs.PlainPorts.{PlainPorts, PortsAt, machine_in}
 use Rattle.csp_ports.specs.declared.terms.SlotState.{SlotState}
-use Rattle.csp_ports.proofs.Holding.{AreHoused, machine-housed}
+use Rattle.csp_ports.proofs.Holding.{machine-housed}
 use Rattle.csp_ports.proofs.Slots.{placed_machine, placed_state}
 use Rattle.csp_ports.specs.declared.ports.Ports.TheInside.{Inside}
-use Rattle.csp_ports.specs.declared.stalled.Stalled.{Stalled}
 use Rattle.csp_rdp.specs.Balance.{IsInOrder, IsWhole}
 use Rattle.csp_rdp.specs.Jobs.{admitting, closed_in, sent, ticked, timed_out}
 use Rattle.csp_rdp.specs.Machine.{PlainRdp, broken, idle}
@@ -91,12 +88,8 @@ placed_unopened n Closed w h = tt
 placed_whole : (n : RegionName) (r : PlainRdp) → IsWhole r → IsWhole (placed n r)
 placed_whole n r h = record { unopened = placed_unopened n r.state r.recv h.unopened; ordered = placed_order n r.recv.cur r.recv.kept h.ordered }
 
-housed_whole : (name : RegionName) (s : SlotState) → AreHoused name s → IsWhole (machine_in (placed_state nowhere s))
-housed_whole name s h = subst IsWhole (sym (placed_machine nowhere s)) (placed_whole nowhere (machine_in s) (machine-housed name s h).whole)
-
-waiting_slot : (name : RegionName) (s : Option Stalled) → IfSome s (IsWaiting name) → IfSome (option_map stalled_of s) (λ t. t.slot < SLOTS)
-waiting_slot name None h = tt
-waiting_slot name (Some s) h = h.slot
+kept_whole : (name : RegionName) (s : SlotState) → IsKept name s → IsWhole (machine_in (placed_state nowhere s))
+kept_whole name s h = subst IsWhole (sym (placed_machine nowhere s)) (placed_whole nowhere (machine_in s) (machine-housed name s h.housed).whole)
 
 whole_in : (p : Inside) → ArePorts p → AreWhole (plain_ports p)
 whole_in p a = record {
@@ -105,16 +98,12 @@ whole_in p a = record {
   machines =
       All-map IsWhole machine_in (map (placed_state nowhere) p.slots.items)
       (All-map (λ (s : SlotState). IsWhole (machine_in s)) (placed_state nowhere) p.slots.items
-      (All-weaker (AreHoused p.token.name) (λ (s : SlotState). IsWhole (machine_in (placed_state nowhere s))) (housed_whole p.token.name) p.slots.items a.housed));
-  places = length-map p.stalled (option_map stalled_of) ∙ a.places;
-  waits =
-      All-map (λ (s : Option PlainStalled). IfSome s (λ t. t.slot < SLOTS)) (option_map stalled_of) p.stalled
-      (All-weaker (λ (s : Option Stalled). IfSome s (IsWaiting p.token.name)) (λ (s : Option Stalled). IfSome (option_map stalled_of s) (λ t. t.slot < SLOTS)) (waiting_slot p.token.name) p.stalled a.waits);
+      (All-weaker (IsKept p.token.name) (λ (s : SlotState). IsWhole (machine_in (placed_state nowhere s))) (kept_whole p.token.name) p.slots.items a.kept));
 }
 
 pub whole_seen : (p : Inside) (at : PortsAt) → ports_at p ≡ at → ArePorts p → AreWhole at.ports
 whole_seen p at view a = subst (λ (x : PortsAt). AreWhole x.ports) view (whole_in p a)
 
 -- the place of a slot that is there is one of theirs
-pub there_few : (p : PlainPorts) (seat : Seat) → AreWhole p → IsThere p.conns seat → (seat.app < 4) × (place_of seat < 16)
-there_few p seat h there = (omega (arith, h.few, there.of_node), omega (arith, h.few, there.of_node, there.of_app))
+pub there_few : (p : PlainPorts) (seat : Seat) → AreWhole p → IsThere p.conns seat → place_of seat < 16
+there_few p seat h there = omega (arith, h.few, there.of_node, there.of_app)

@@ -1,4 +1,4 @@
--- the answers that are still to come at the slots of an application
+-- what is counted at the slots of an application, as the answers that are still to come there
 use Rattle.std.specs.Prelude.{get_or, slice_set, sum_by}
 use Rattle.std.proofs.Common.{◌≡◌, ℕ, ◌+◌, ◌-◌, ◌<◌, ◌≤◌, nat_lt, Bool, true, false, List, length, take, drop, refl, arith}
 use Rattle.std.proofs.lemmas.Bool.{ltb-true, ltb-false}
@@ -24,28 +24,36 @@ before f s n k xs v h = rw (drop-set-lt s xs k v h) refl
 behind : {X : Type 0} → (f : X → ℕ) (s n j k : ℕ) (xs : List X) (v : X) → k ≡ s + j → n ≤ j → sum_by f (take n (drop s (slice_set xs k v))) ≡ sum_by f (take n (drop s xs))
 behind f s n j k xs v e h = rw (e, drop-set-add s xs j v, take-set-le n (drop s xs) j v h) refl
 
-abbrev weight : Terms → ℕ
-weight t = wished t.wish
+-- what an application's slots come to
+abbrev pub weighs : {X : Type 0} → (X → ℕ) → (app : ℕ) → List X → ℕ
+weighs f app xs = sum_by f (take 4 (drop (place_of (seat app 0)) xs))
 
--- other terms at a slot of the application
-pub wishes_at : (at : Seat) (terms : List Terms) (t d : Terms) → at.slot < 4 → place_of at < length terms → wishes at.app (slice_set terms (place_of at) t) + weight (get_or terms (place_of at) d) ≡ wishes at.app terms + weight t
-wishes_at at terms t d h there = inside weight (place_of (seat at.app 0)) 4 at.slot (place_of at) terms t d (omega arith) h there
+-- another in the place of one of them
+pub weighs_at : {X : Type 0} → (f : X → ℕ) (at : Seat) (xs : List X) (v d : X) → at.slot < 4 → place_of at < length xs → weighs f at.app (slice_set xs (place_of at) v) + f (get_or xs (place_of at) d) ≡ weighs f at.app xs + f v
+weighs_at f at xs v d h there = inside f (place_of (seat at.app 0)) 4 at.slot (place_of at) xs v d (omega arith) h there
 
--- and at one of another
+-- and in that of one of another application
+pub weighs_later : {X : Type 0} → (f : X → ℕ) (at : Seat) (other : ℕ) (xs : List X) (v : X) → at.slot < 4 → other < at.app → weighs f other (slice_set xs (place_of at) v) ≡ weighs f other xs
+weighs_later f at other xs v h far = behind f (place_of (seat other 0)) 4 (place_of at - place_of (seat other 0)) (place_of at) xs v (omega (arith, h, far)) (omega (arith, h, far))
+
+pub weighs_earlier : {X : Type 0} → (f : X → ℕ) (at : Seat) (other : ℕ) (xs : List X) (v : X) → at.slot < 4 → at.app < other → weighs f other (slice_set xs (place_of at) v) ≡ weighs f other xs
+weighs_earlier f at other xs v h far = before f (place_of (seat other 0)) 4 (place_of at) xs v (omega (arith, h, far))
+
+-- then no application's come to more than they may, where those of the one that it is do not
+pub weighs_after : {X : Type 0} → (f : X → ℕ) (most : ℕ) (at : Seat) (xs : List X) (owed : ℕ → ℕ) (v d : X) → at.slot < 4 → place_of at < length xs → ((a : ℕ) → owed a + weighs f a xs ≤ most)
+    → (owed at.app + weighs f at.app xs) + f v ≤ most + f (get_or xs (place_of at) d) → (a : ℕ) → owed a + weighs f a (slice_set xs (place_of at) v) ≤ most
+weighs_after f most at xs owed v d h there due more a = by_app _ refl _ refl
+  where
+    by_app : (e : Bool) → nat_lt a at.app ≡ e → (g : Bool) → nat_lt at.app a ≡ g → owed a + weighs f a (slice_set xs (place_of at) v) ≤ most
+    by_app true e later i = rw (weighs_later f at a xs v h (ltb-true a at.app e)) (due a)
+    by_app false e true i = rw (weighs_earlier f at a xs v h (ltb-true at.app a i)) (due a)
+    by_app false e false i =
+        let same : a ≡ at.app = omega (arith, ltb-false a at.app e, ltb-false at.app a i) in
+        rw same (omega (arith, weighs_at f at xs v d h there, more))
+
+-- the answers that are still to come, with other terms at a slot of another application
 pub wishes_later : (at : Seat) (other : ℕ) (terms : List Terms) (t : Terms) → at.slot < 4 → other < at.app → wishes other (slice_set terms (place_of at) t) ≡ wishes other terms
-wishes_later at other terms t h far = behind weight (place_of (seat other 0)) 4 (place_of at - place_of (seat other 0)) (place_of at) terms t (omega (arith, h, far)) (omega (arith, h, far))
+wishes_later at other terms t h far = weighs_later (λ t. wished t.wish) at other terms t h far
 
 pub wishes_earlier : (at : Seat) (other : ℕ) (terms : List Terms) (t : Terms) → at.slot < 4 → at.app < other → wishes other (slice_set terms (place_of at) t) ≡ wishes other terms
-wishes_earlier at other terms t h far = before weight (place_of (seat other 0)) 4 (place_of at) terms t (omega (arith, h, far))
-
--- other terms at a slot, with no more answers still to come than may be
-pub due_after : (most : ℕ) (at : Seat) (terms : List Terms) (owed : ℕ → ℕ) (t d : Terms) → at.slot < 4 → place_of at < length terms → ((a : ℕ) → owed a + wishes a terms ≤ most)
-    → (owed at.app + wishes at.app terms) + weight t ≤ most + weight (get_or terms (place_of at) d) → (a : ℕ) → owed a + wishes a (slice_set terms (place_of at) t) ≤ most
-due_after most at terms owed t d h there due more a = by_app _ refl _ refl
-  where
-    by_app : (e : Bool) → nat_lt a at.app ≡ e → (f : Bool) → nat_lt at.app a ≡ f → owed a + wishes a (slice_set terms (place_of at) t) ≤ most
-    by_app true e f g = rw (wishes_later at a terms t h (ltb-true a at.app e)) (due a)
-    by_app false e true g = rw (wishes_earlier at a terms t h (ltb-true at.app a g)) (due a)
-    by_app false e false g =
-        let same : a ≡ at.app = omega (arith, ltb-false a at.app e, ltb-false at.app a g) in
-        rw same (omega (arith, wishes_at at terms t d h there, more))
+wishes_earlier at other terms t h far = weighs_earlier (λ t. wished t.wish) at other terms t h far

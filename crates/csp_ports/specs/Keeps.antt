@@ -9,7 +9,7 @@ use Rattle.csp_deck.specs.Keeping.{numbers_of}
 use Rattle.csp_deck.specs.Step.{times}
 use Rattle.csp_ports.specs.Counts.{AreFar}
 use Rattle.csp_ports.specs.Held.{held}
-use Rattle.csp_ports.specs.PlainPorts.{PlainPorts, machine_at, machines_of, stalls}
+use Rattle.csp_ports.specs.PlainPorts.{PlainPorts, machine_at, machines_of}
 use Rattle.csp_ports.specs.declared.task.Task.{Task}
 use Rattle.csp_ports.specs.declared.task.Task.TheVariants as task
 use Rattle.csp_rdp.specs.Balance.{IsWhole}
@@ -39,10 +39,8 @@ IsOwedBy task.Tell time seat p = ⊤
 IsOwedBy task.Deliver time seat p = ((machine_at p seat).state ≡ state.Open) × IsSome (delivery (machine_at p seat))
 IsOwedBy (task.Make j) time seat p = (job_of time (machine_at p seat) ≡ Some j) × (j ≢ job.Deliver)
 
--- there are no more applications than may be; each machine of a slot is whole; and no more packets wait than there may be
--- applications
+-- there are no more applications than may be; each slot has its place; and each machine of a slot is whole
 pub record AreWhole (p : PlainPorts) : Type 0 where
   pub few : p.conns.apps ≤ MAX_APPS
   pub slots : length p.slots ≡ ALL_SLOTS
   pub machines : All IsWhole (machines_of p)
-  pub waits : stalls p.slots ≤ MAX_APPS

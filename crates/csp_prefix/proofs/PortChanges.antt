@@ -46,7 +46,7 @@ ends_none wish.End h = refl
 ends_none wish.Ended h = absurd (h refl)
 
 module _ {Is : Numbering → Seat → Now → Type 0} {m : Numbering} {ordinal : ℕ} {seat : Seat} {v : View} where
-  pub use_fine : {Tight : ℕ → Type 0} → (Tight seat.app → (payload : List ℕ) → v.waits ≡ Some payload → v.machine.state ≡ Open) → IsUse Is m ordinal seat v (now_of v) → IsFine Is Tight m ordinal seat v
+  pub use_fine : {Tight : Seat → Type 0} → (Tight seat → (payload : List ℕ) → v.waits ≡ Some payload → v.machine.state ≡ Open) → IsUse Is m ordinal seat v (now_of v) → IsFine Is Tight m ordinal seat v
   use_fine waits u = record {
     counted = u.counted;
     ends = u.ends;
@@ -72,7 +72,7 @@ module _ {Is : Numbering → Seat → Now → Type 0} {m : Numbering} {ordinal :
 abbrev pub vacant : ℕ → View → View
 vacant k v = record v { what = has.Free; terms = record v.terms { wish = wish.Nothing; is_down = false; ordinal = k }; machine = idle }
 
-module _ {Is : Numbering → Seat → Now → Type 0} {Tight : ℕ → Type 0} {m : Numbering} {ordinals : Ordinals} {books : Books} {p : PlainPorts} {seat : Seat} {v : View} (h : AreFineBut Is Tight m ordinals books p seat v) where
+module _ {Is : Numbering → Seat → Now → Type 0} {Tight : Seat → Type 0} {m : Numbering} {ordinals : Ordinals} {books : Books} {p : PlainPorts} {seat : Seat} {v : View} (h : AreFineBut Is Tight m ordinals books p seat v) where
   pub at_view : AreFineBut Is Tight m ordinals books p seat (view p books seat)
   at_view = record { shape = h.shape; here = h.here; there = h.there; seen = refl; others = h.others }
 
@@ -108,10 +108,10 @@ module _ {Is : Numbering → Seat → Now → Type 0} {Tight : ℕ → Type 0} {
 
   -- ---- changes
 
-  rest_leaves : (Tight seat.app → ⊥) → IsUse Is m (ordinals seat) seat v (now_of v) → Leaves Is Tight m ordinals books p.conns.apps (come p)
+  rest_leaves : (Tight seat → ⊥) → IsUse Is m (ordinals seat) seat v (now_of v) → Leaves Is Tight m ordinals books p.conns.apps (come p)
   rest_leaves loose u = record { same = refl; new = tt; fine = whole h (use_fine (λ t. absurd (loose t)) u) }
 
-  down_leaves : (Tight seat.app → ⊥) → IsUse Is m (ordinals seat) seat v (now_of v) → Leaves Is Tight m ordinals books p.conns.apps (changed change.Down seat p)
+  down_leaves : (Tight seat → ⊥) → IsUse Is m (ordinals seat) seat v (now_of v) → Leaves Is Tight m ordinals books p.conns.apps (changed change.Down seat p)
   down_leaves loose u =
       let x = view p books seat in
       let k : IsUse Is m (ordinals seat) seat x (now_of x) = subst (λ (v : View). IsUse Is m (ordinals seat) seat v (now_of v)) (sym h.seen) u in
@@ -120,8 +120,8 @@ module _ {Is : Numbering → Seat → Now → Type 0} {Tight : ℕ → Type 0} {
       record { same = refl; new = tt; fine = whole (terms_but at_view (record (terms_at p seat) { is_down = true })) (use_fine (λ t. absurd (loose t)) l) }
 
 -- the connection is closed; its slot may be free then
-module _ {Is : Numbering → Seat → Now → Type 0} {Tight : ℕ → Type 0} {m : Numbering} {ordinals : Ordinals} {books : Books} {p : PlainPorts} {seat : Seat} {v : View} (h : AreFineBut Is Tight m ordinals books p seat v) where
-  closed_on : let x = view p books seat in (w : Wish) (b : Bool) → x.terms.wish ≡ w → x.machine.was_open ≡ b → (Tight seat.app → ⊥) → x.machine.state ≡ Closed → IsUse Is m (ordinals seat) seat x (now_of x) → (x.machine.was_open ≡ false → (x.book ≡ blank) × (x.waits ≡ None))
+module _ {Is : Numbering → Seat → Now → Type 0} {Tight : Seat → Type 0} {m : Numbering} {ordinals : Ordinals} {books : Books} {p : PlainPorts} {seat : Seat} {v : View} (h : AreFineBut Is Tight m ordinals books p seat v) where
+  closed_on : let x = view p books seat in (w : Wish) (b : Bool) → x.terms.wish ≡ w → x.machine.was_open ≡ b → (Tight seat → ⊥) → x.machine.state ≡ Closed → IsUse Is m (ordinals seat) seat x (now_of x) → (x.machine.was_open ≡ false → (x.book ≡ blank) × (x.waits ≡ None))
       → Leaves Is Tight m ordinals books p.conns.apps (closed_by w b seat p)
   closed_on wish.End b e f loose over u never =
       let x = view p books seat in
@@ -138,7 +138,7 @@ module _ {Is : Numbering → Seat → Now → Type 0} {Tight : ℕ → Type 0} {
   closed_on wish.Connection b e f loose over u never = rest_leaves (at_view h) loose u
   closed_on wish.Ended b e f loose over u never = rest_leaves (at_view h) loose u
 
-  closed_leaves : (Tight seat.app → ⊥) → v.machine.state ≡ Closed → IsUse Is m (ordinals seat) seat v (now_of v) → (v.machine.was_open ≡ false → (v.book ≡ blank) × (v.waits ≡ None))
+  closed_leaves : (Tight seat → ⊥) → v.machine.state ≡ Closed → IsUse Is m (ordinals seat) seat v (now_of v) → (v.machine.was_open ≡ false → (v.book ≡ blank) × (v.waits ≡ None))
       → Leaves Is Tight m ordinals books p.conns.apps (changed change.Closed seat p)
   closed_leaves loose over u never =
       subst
@@ -146,7 +146,7 @@ module _ {Is : Numbering → Seat → Now → Type 0} {Tight : ℕ → Type 0} {
       h.seen (closed_on _ _ refl refl loose) over u never
 
   -- it is open: that is told
-  connected_on : (w : Wish) (bs : Books) (y : View) → (terms_at p seat).wish ≡ w → AreFineBut Is Tight m ordinals bs p seat y → y.terms ≡ terms_at p seat → (Tight seat.app → ⊥) → IsUse Is m (ordinals seat) seat y (now_of y)
+  connected_on : (w : Wish) (bs : Books) (y : View) → (terms_at p seat).wish ≡ w → AreFineBut Is Tight m ordinals bs p seat y → y.terms ≡ terms_at p seat → (Tight seat → ⊥) → IsUse Is m (ordinals seat) seat y (now_of y)
       → AreFine Is Tight m ordinals bs (connected_by w seat p)
   connected_on wish.Connection bs y e k same loose u =
       subst (λ (y : View). IsUse Is m (ordinals seat) seat y (now_of y) → AreFine Is Tight m ordinals bs (connected_by wish.Connection seat p)) k.seen
@@ -159,7 +159,7 @@ module _ {Is : Numbering → Seat → Now → Type 0} {Tight : ℕ → Type 0} {
   connected_on wish.End bs y e k same loose u = whole k (use_fine (λ t. absurd (loose t)) u)
   connected_on wish.Ended bs y e k same loose u = whole k (use_fine (λ t. absurd (loose t)) u)
 
-  opened_on : let x = view p books seat in (Tight seat.app → ⊥) → x.book ≡ blank → IsUse Is m (ordinals seat) seat x (after_opening (now_of x)) → Leaves Is Tight m ordinals books p.conns.apps (changed change.Opened seat p)
+  opened_on : let x = view p books seat in (Tight seat → ⊥) → x.book ≡ blank → IsUse Is m (ordinals seat) seat x (after_opening (now_of x)) → Leaves Is Tight m ordinals books p.conns.apps (changed change.Opened seat p)
   opened_on loose none u =
       let x = view p books seat in
       let how : Option ℕ × Option (ℕ × ℕ) = (Some x.machine.nth, x.machine.peer) in
@@ -177,7 +177,7 @@ module _ {Is : Numbering → Seat → Now → Type 0} {Tight : ℕ → Type 0} {
       same_apps wish.End = refl
       same_apps wish.Ended = refl
 
-  opened_leaves : (Tight seat.app → ⊥) → v.book ≡ blank → IsUse Is m (ordinals seat) seat v (after_opening (now_of v)) → Leaves Is Tight m ordinals books p.conns.apps (changed change.Opened seat p)
+  opened_leaves : (Tight seat → ⊥) → v.book ≡ blank → IsUse Is m (ordinals seat) seat v (after_opening (now_of v)) → Leaves Is Tight m ordinals books p.conns.apps (changed change.Opened seat p)
   opened_leaves loose none u =
       subst (λ (v : View). v.book ≡ blank → IsUse Is m (ordinals seat) seat v (after_opening (now_of v)) → Leaves Is Tight m ordinals books p.conns.apps (changed change.Opened seat p)) h.seen (opened_on loose) none u
 
@@ -203,8 +203,8 @@ syn_sent_closed : SynSent ≡ Closed → ⊥
 syn_sent_closed e = cc
 
 module _ {o : OwnFlows} {C : Coming} {Is : Numbering → Seat → Now → Type 0} (kept : IsKept o C Is)
-    {Tight : ℕ → Type 0} {m : Numbering} {ordinals : Ordinals} {books : Books} {p : PlainPorts} {seat : Seat} {v : View} (h : AreFineBut Is Tight m ordinals books p seat v)
-    (before : State) (why : Cause) (r : PlainRdp) (loose : Tight seat.app → ⊥) (edge : IsEdge Is m (ordinals seat) seat before r v) where
+    {Tight : Seat → Type 0} {m : Numbering} {ordinals : Ordinals} {books : Books} {p : PlainPorts} {seat : Seat} {v : View} (h : AreFineBut Is Tight m ordinals books p seat v)
+    (before : State) (why : Cause) (r : PlainRdp) (loose : Tight seat → ⊥) (edge : IsEdge Is m (ordinals seat) seat before r v) where
   stepped_but : AreFineBut Is Tight m ordinals books (with_machine p seat (rested r)) seat (record v { machine = rested r })
   stepped_but = machine_but h (rested r)
 

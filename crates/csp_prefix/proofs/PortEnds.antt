@@ -27,7 +27,7 @@ use Rattle.csp_prefix.proofs.PortChanges.{at_view}
 use Rattle.csp_prefix.proofs.PortFacts.{All, Leaves, comes_of, fine_of, used, using}
 use Rattle.csp_prefix.proofs.PortSlots.{AreFine, AreFineBut, ended_but, look, machine_but, none_some, slot_but, terms_but, whole}
 use Rattle.csp_prefix.proofs.PortViews.{View, now_of, view}
-use Rattle.csp_prefix.specs.Ports.{AreGood, Books, Comes, IsInUse, IsPlain, IsSlot, IsVacant, Ordinals, ends_due, waiting_on}
+use Rattle.csp_prefix.specs.Ports.{AreGood, Books, Comes, IsInUse, IsPlain, IsSlot, IsVacant, Ordinals, ends_due, waiting_payload}
 use Rattle.csp_prefix.specs.Slots.{Coming, IsKept, Now, Numbering}
 use Rattle.csp_prefix.specs.Slots.{with_machine}
 
@@ -37,7 +37,7 @@ end_ended : wish.End ≡ wish.Ended → ⊥
 end_ended e = cc
 
 -- other terms, by what they are
-pub terms_by : {Is : Numbering → Seat → Now → Type 0} {Tight : ℕ → Type 0} {m : Numbering} {ordinals : Ordinals} {books : Books} {p : PlainPorts} {seat : Seat} {v : View} (f : Terms → Terms) → AreFineBut Is Tight m ordinals books p seat v
+pub terms_by : {Is : Numbering → Seat → Now → Type 0} {Tight : Seat → Type 0} {m : Numbering} {ordinals : Ordinals} {books : Books} {p : PlainPorts} {seat : Seat} {v : View} (f : Terms → Terms) → AreFineBut Is Tight m ordinals books p seat v
     → AreFineBut Is Tight m ordinals books (with_terms p seat (f (terms_at p seat))) seat (record v { terms = f v.terms })
 terms_by {Is} {Tight} {m} {ordinals} {books} {p} {seat} {v} f h =
     subst (λ (v : View). AreFineBut Is Tight m ordinals books (with_terms p seat (f (terms_at p seat))) seat (record v { terms = f v.terms })) h.seen (terms_but (at_view h) (f (terms_at p seat)))
@@ -78,7 +78,7 @@ still : (time : ℕ) (r : PlainRdp) → r ≡ idle → rested (closing time r) �
 still time r e = ap (λ (r : PlainRdp). rested (closing time r)) e
 
 module _ {o : OwnFlows} {C : Coming} {Is : Numbering → Seat → Now → Type 0} (kept : IsKept o C Is)
-    {m : Numbering} {ordinals : Ordinals} {books : Books} {p : PlainPorts} (seat : Seat) (time : ℕ) (here : seat.app < p.conns.apps) (there : seat.slot < SLOTS) (none : stalled_at p seat.app ≡ None) (g : AreGood Is m ordinals books p) where
+    {m : Numbering} {ordinals : Ordinals} {books : Books} {p : PlainPorts} (seat : Seat) (time : ℕ) (here : seat.app < p.conns.apps) (there : seat.slot < SLOTS) (none : stalled_at p seat ≡ None) (g : AreGood Is m ordinals books p) where
   -- a slot with a connection
   closed_use : (c : Connection) (b : Bool) (w : Wish) → let x = view p books seat in x.what ≡ has.Open c → is_reliable x.terms.flags ≡ b
       → IsSlot Is x.what (record x.terms { wish = w }) m seat (now_of (record x { machine = rested (closing time x.machine) }))
@@ -97,8 +97,8 @@ module _ {o : OwnFlows} {C : Coming} {Is : Numbering → Seat → Now → Type 0
   vacant_still : let x = view p books seat in IsVacant (now_of x) → IsVacant (now_of (record x { machine = rested (closing time x.machine) }))
   vacant_still k = record { machine = still time (machine_at p seat) k.machine; waits = k.waits; book = k.book }
 
-  none_waits : waiting_on seat.slot (stalled_at p seat.app) ≡ None
-  none_waits = ap (waiting_on seat.slot) none
+  none_waits : waiting_payload (stalled_at p seat) ≡ None
+  none_waits = ap waiting_payload none
 
   -- what comes of it on ports where the slot is held
   abbrev Closes : PlainPorts → Type 0

@@ -1,7 +1,6 @@
 -- ports that are good, by their slots; one step after another; and what is on a slot
 use Rattle.std.specs.Prelude.{Bool, true, false, None, ⊤}
 use Rattle.std.proofs.Common.{◌≡◌, ◌⊎◌, inl, inr, ℕ, ◌+◌, List, [], ◌∷◌, ◌++◌, ap, refl, sym, subst, ◌∙◌}
-use Rattle.csp_base.specs.Seat.{seat}
 use Rattle.csp_base.specs.declared.seat.Seat.{Seat}
 use Rattle.csp_conn.specs.declared.slot.Connection.{Connection}
 use Rattle.csp_conn.specs.declared.slot.Slot.{Slot}
@@ -9,20 +8,19 @@ use Rattle.csp_conn.specs.declared.slot.Slot.TheVariants as has
 use Rattle.csp_log.specs.declared.event.Event.{Event}
 use Rattle.csp_ports.specs.Asking.{is_reliable}
 use Rattle.csp_ports.specs.Came.{Came, come, then}
-use Rattle.csp_ports.specs.PlainPorts.{PlainPorts, machine_at, stalled_at}
+use Rattle.csp_ports.specs.PlainPorts.{PlainPorts}
 use Rattle.csp_ports.specs.Steps.{where_machine}
 use Rattle.csp_ports.specs.declared.flows.OwnFlows.{OwnFlows}
 use Rattle.csp_ports.specs.declared.terms.Terms.{Terms}
 use Rattle.csp_ports.specs.declared.terms.Wish.TheVariants as wish
 use Rattle.csp_rdp.specs.Machine.{idle}
-use Rattle.csp_rdp.specs.declared.answers.State.TheVariants.{Open}
-use Rattle.csp_prefix.proofs.PortSlots.{AreFine, AreFineBut, waiting_here, waiting_open}
+use Rattle.csp_prefix.proofs.PortSlots.{AreFine, AreFineBut, looser}
 use Rattle.csp_prefix.proofs.PortViews.{View, now_of, view}
 use Rattle.csp_prefix.specs.Ports.{AreGood, AreNew, Books, Comes, IsInUse, IsPlain, IsSlot, IsVacant, Ordinals, noted, noted_by}
 use Rattle.csp_prefix.specs.Slots.{Coming, GoesOn, IsKept, Now, Numbering}
 
--- every application
-abbrev pub All : ℕ → Type 0
+-- every slot
+abbrev pub All : Seat → Type 0
 All _ = ⊤
 
 -- ---- good ports are fine on each slot, and the other way round
@@ -34,17 +32,15 @@ module _ {Is : Numbering → Seat → Now → Type 0} {m : Numbering} {ordinals 
       few = g.few;
       conns = g.conns;
       states = g.states;
-      places = g.places;
       made = g.made;
       owners = g.owners;
       owed = g.owed;
-      waits = λ app s k e. (g.waits app s k e).0;
     };
     slots = λ a k l. record {
       counted = g.counted a k l;
       ends = g.ends a k l;
       over = g.over a k l;
-      waits = λ t payload e. waiting_open (stalled_at p a.app) a.slot payload (λ (slot : ℕ). (machine_at p (seat a.app slot)).state ≡ Open) (λ t f. (g.waits a.app t k f).1) e;
+      waits = λ t. g.waits a k l;
       holds = g.slots a k l;
     };
   }
@@ -54,14 +50,11 @@ module _ {Is : Numbering → Seat → Now → Type 0} {m : Numbering} {ordinals 
     few = h.shape.few;
     conns = h.shape.conns;
     states = h.shape.states;
-    places = h.shape.places;
     made = h.shape.made;
     owners = h.shape.owners;
     owed = h.shape.owed;
     counted = λ a k l. (h.slots a k l).counted;
-    waits = λ app s k e.
-        let there = h.shape.waits app s k e in
-        (there, (h.slots (seat app s.slot) k there).waits tt s.buffer.picture.payload (waiting_here (stalled_at p app) s e));
+    waits = λ a k l. (h.slots a k l).waits tt;
     ends = λ a k l. (h.slots a k l).ends;
     over = λ a k l. (h.slots a k l).over;
     slots = λ a k l. (h.slots a k l).holds;
@@ -70,7 +63,7 @@ module _ {Is : Numbering → Seat → Now → Type 0} {m : Numbering} {ordinals 
 -- ---- steps
 
 -- what comes leaves every slot fine, with what is reported noted
-pub record Leaves (Is : Numbering → Seat → Now → Type 0) (Tight : ℕ → Type 0) (m : Numbering) (ordinals : Ordinals) (books : Books) (apps : ℕ) (c : Came) : Type 0 where
+pub record Leaves (Is : Numbering → Seat → Now → Type 0) (Tight : Seat → Type 0) (m : Numbering) (ordinals : Ordinals) (books : Books) (apps : ℕ) (c : Came) : Type 0 where
   pub same : c.ports.conns.apps ≡ apps
   pub new : AreNew apps c.events books
   pub fine : AreFine Is Tight m ordinals (noted c.events books) c.ports
@@ -83,17 +76,11 @@ noted_both : (es fs : List Event) (books : Books) → noted fs (noted es books) 
 noted_both [] fs books = refl
 noted_both (e ∷ es) fs books = noted_both es fs (noted_by e books)
 
-module _ {Is : Numbering → Seat → Now → Type 0} {Tight : ℕ → Type 0} {m : Numbering} {ordinals : Ordinals} {books : Books} {apps : ℕ} where
-  pub comes_of : {c : Came} → Leaves Is Tight m ordinals books apps c → ((a : ℕ) → Tight a) → Comes Is m ordinals books apps c
-  comes_of h tight = record { same = h.same; new = h.new; good = good_of (tightened h.fine) }
-    where
-      tightened : {p : PlainPorts} {others : Books} → AreFine Is Tight m ordinals others p → AreFine Is All m ordinals others p
-      tightened h = record {
-        shape = h.shape;
-        slots = λ a k l. let f = h.slots a k l in record { counted = f.counted; ends = f.ends; over = f.over; waits = λ t. f.waits (tight a.app); holds = f.holds };
-      }
+module _ {Is : Numbering → Seat → Now → Type 0} {Tight : Seat → Type 0} {m : Numbering} {ordinals : Ordinals} {books : Books} {apps : ℕ} where
+  pub comes_of : {c : Came} → Leaves Is Tight m ordinals books apps c → ((a : Seat) → Tight a) → Comes Is m ordinals books apps c
+  comes_of h tight = record { same = h.same; new = h.new; good = good_of (looser (λ a k l t. tight a) h.fine) }
 
-  pub then_leaves : {Loose : ℕ → Type 0} (c : Came) (next : PlainPorts → Came) → Leaves Is Loose m ordinals books apps c
+  pub then_leaves : {Loose : Seat → Type 0} (c : Came) (next : PlainPorts → Came) → Leaves Is Loose m ordinals books apps c
       → Leaves Is Tight m ordinals (noted c.events books) apps (next c.ports) → Leaves Is Tight m ordinals books apps (then c next)
   then_leaves c next h k = record {
     same = k.same;
@@ -157,18 +144,16 @@ module _ {o : OwnFlows} {C : Coming} {Is : Numbering → Seat → Now → Type 0
   grown_slot has.Held t old new seat n g h = h
   grown_slot (has.Open c) t old new seat n g h = grown_use (is_reliable t.flags) old new seat n g h
 
-  pub grown_but : {Tight : ℕ → Type 0} {old : Numbering} {ordinals : Ordinals} {books : Books} {p : PlainPorts} {seat : Seat} {v : View} (new : Numbering) → GoesOn old new → new.made ≡ old.made + 1 → AreFineBut Is Tight old ordinals books p seat v
+  pub grown_but : {Tight : Seat → Type 0} {old : Numbering} {ordinals : Ordinals} {books : Books} {p : PlainPorts} {seat : Seat} {v : View} (new : Numbering) → GoesOn old new → new.made ≡ old.made + 1 → AreFineBut Is Tight old ordinals books p seat v
       → AreFineBut Is Tight new ordinals books (record p { made = p.made + 1 }) seat v
   grown_but {old = old} {books = books} {p = p} new g more h = record {
     shape = record {
       few = h.shape.few;
       conns = h.shape.conns;
       states = h.shape.states;
-      places = h.shape.places;
       made = ap (λ (k : ℕ). k + 1) h.shape.made ∙ sym more;
       owners = h.shape.owners;
       owed = h.shape.owed;
-      waits = h.shape.waits;
     };
     here = h.here;
     there = h.there;

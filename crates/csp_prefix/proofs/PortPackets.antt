@@ -23,45 +23,33 @@ use Rattle.csp_prefix.proofs.PortChanges.{IsEdge, went_leaves}
 use Rattle.csp_prefix.proofs.PortFacts.{All, IsReliable, Leaves, comes_of, fine_of, then_leaves, used, where_leaves}
 use Rattle.csp_prefix.proofs.PortQuiet.{idle_delivery, taken_state, used_on}
 use Rattle.csp_prefix.proofs.PortRoom.{dropped_leaves, settled_leaves}
-use Rattle.csp_prefix.proofs.PortSlots.{AreFine, AreFineBut, book_but, look, machine_but, none_some}
-use Rattle.csp_prefix.proofs.PortViews.{View, now_of, view}
+use Rattle.csp_prefix.proofs.PortSlots.{AreFine, AreFineBut, book_but, look, looser, machine_but, none_some}
+use Rattle.csp_prefix.proofs.PortViews.{IsOther, View, now_of, view}
 use Rattle.csp_prefix.specs.Ports.{AreGood, Books, Comes, IsReliableOn, Ordinals, connection_in, with_down}
 use Rattle.csp_prefix.specs.Slots.{Coming, IsKept, Now, Numbering, Opens, after_delivering, after_opening}
 use Rattle.csp_prefix.specs.Slots.{with_machine}
 use Rattle.csp_conn.specs.PlainConns.{slot_at}
 
--- every application but this one
-abbrev pub Others : ℕ → ℕ → Type 0
-Others app a = a ≡ app → ⊥
-
-pub loosened : {Is : Numbering → Seat → Now → Type 0} {m : Numbering} {ordinals : Ordinals} {books : Books} {p : PlainPorts} {Tight : ℕ → Type 0} → AreFine Is All m ordinals books p → AreFine Is Tight m ordinals books p
-loosened h = record {
-  shape = h.shape;
-  slots = λ a k l. let f = h.slots a k l in record { counted = f.counted; ends = f.ends; over = f.over; waits = λ _. f.waits tt; holds = f.holds };
-}
-
--- after the step of a connection the packet of its application that waits is looked at
+-- after the step of a connection the packet that waits for it is looked at
 module _ {o : OwnFlows} {C : Coming} {Is : Numbering → Seat → Now → Type 0} (kept : IsKept o C Is)
-    {m : Numbering} {ordinals : Ordinals} {apps app : ℕ} where
-  dropped_next : {books : Books} {q : PlainPorts} → q.conns.apps ≡ apps → app < apps → AreFine Is (Others app) m ordinals books q → Leaves Is All m ordinals books apps (dropped app q)
-  dropped_next {books} {q} same here h =
-      subst (λ (n : ℕ). Leaves Is All m ordinals books n (dropped app q)) same
-      (dropped_leaves kept app (subst (λ (n : ℕ). app < n) (sym same) here) h {Tight = All} (λ a t o. o))
+    {m : Numbering} {ordinals : Ordinals} {apps : ℕ} (seat : Seat) (here : seat.app < apps) (there : seat.slot < SLOTS) where
+  dropped_next : {books : Books} {q : PlainPorts} → q.conns.apps ≡ apps → AreFine Is (IsOther seat) m ordinals books q → Leaves Is All m ordinals books apps (dropped seat q)
+  dropped_next {books} {q} same h =
+      subst (λ (n : ℕ). Leaves Is All m ordinals books n (dropped seat q)) same
+      (dropped_leaves kept seat (subst (λ (n : ℕ). seat.app < n) (sym same) here) there h {Tight = All} (λ a l t o. o))
 
-  pub then_dropped : {books : Books} (c : Came) → app < apps → Leaves Is (Others app) m ordinals books apps c → Leaves Is All m ordinals books apps (then c (dropped app))
-  then_dropped c here h = then_leaves c (dropped app) h (dropped_next h.same here h.fine)
+  then_dropped : {books : Books} (c : Came) → Leaves Is (IsOther seat) m ordinals books apps c → Leaves Is All m ordinals books apps (then c (dropped seat))
+  then_dropped c h = then_leaves c (dropped seat) h (dropped_next h.same h.fine)
 
-  settled_next : {books : Books} {q : PlainPorts} (time : ℕ) → q.conns.apps ≡ apps → app < apps → AreFine Is All m ordinals books q → Leaves Is All m ordinals books apps (come (settled time app q))
-  settled_next {books} {q} time same here h =
-      subst (λ (n : ℕ). Leaves Is All m ordinals books n (come (settled time app q))) same
-      (settled_leaves kept app (subst (λ (n : ℕ). app < n) (sym same) here) h time)
+  settled_next : {books : Books} {q : PlainPorts} (time : ℕ) → q.conns.apps ≡ apps → AreFine Is All m ordinals books q → Leaves Is All m ordinals books apps (come (settled time seat q))
+  settled_next {books} {q} time same h =
+      subst (λ (n : ℕ). Leaves Is All m ordinals books n (come (settled time seat q))) same
+      (settled_leaves kept seat (subst (λ (n : ℕ). seat.app < n) (sym same) here) there h time)
 
-  then_settled : {books : Books} (c : Came) (time : ℕ) → app < apps → Leaves Is (Others app) m ordinals books apps c
-      → Leaves Is All m ordinals books apps (then c (λ p. then (dropped app p) (λ p. come (settled time app p))))
-  then_settled c time here h =
-      let k = dropped_next h.same here h.fine in
-      then_leaves c (λ p. then (dropped app p) (λ p. come (settled time app p))) h
-      (then_leaves (dropped app c.ports) (λ p. come (settled time app p)) k (settled_next time k.same here k.fine))
+  then_settled : {books : Books} (c : Came) (time : ℕ) → Leaves Is (IsOther seat) m ordinals books apps c → Leaves Is All m ordinals books apps (then c (λ p. then (dropped seat p) (λ p. come (settled time seat p))))
+  then_settled c time h =
+      let k = dropped_next h.same h.fine in
+      then_leaves c (λ p. then (dropped seat p) (λ p. come (settled time seat p))) h (then_leaves (dropped seat c.ports) (λ p. come (settled time seat p)) k (settled_next time k.same k.fine))
 
 -- ---- a packet is handed over
 
@@ -69,7 +57,7 @@ closed_stays : (h : RdpHead) (tag : Option Tag) (b : PlainBuffer) (time : ℕ) (
 closed_stays h tag b time r e = ap (λ (s : State). (after (row_in s r h b.picture.payload) h tag b time r).state) e ∙ e
 
 -- its buffer may be handed back, which is told
-module _ {Is : Numbering → Seat → Now → Type 0} {Tight : ℕ → Type 0} {m : Numbering} {ordinals : Ordinals} {books : Books} {apps : ℕ} where
+module _ {Is : Numbering → Seat → Now → Type 0} {Tight : Seat → Type 0} {m : Numbering} {ordinals : Ordinals} {books : Books} {apps : ℕ} where
   backed : (back : Option PlainBuffer) (stray : Bool) (p : PlainPorts) (next : PlainPorts → Came) → Leaves Is Tight m ordinals books apps (next p) → Leaves Is Tight m ordinals books apps (then (back_by back stray p) next)
   backed None stray p next k = record { same = k.same; new = k.new; fine = k.fine }
   backed (Some b) true p next k = record { same = k.same; new = (tt, k.new); fine = k.fine }
@@ -108,12 +96,12 @@ module _ {o : OwnFlows} {C : Coming} {Is : Numbering → Seat → Now → Type 0
       let step : PlainPorts → Came = went r.state machine_why.Reset seat new in
       let c = where_machine (has_machine p seat) step p in
       let next : PlainPorts → Came =
-      λ p. then (where_machine (has_machine p seat) step p) (λ p. then (dropped seat.app p) (λ p. come (settled time seat.app p))) in
+      λ p. then (where_machine (has_machine p seat) step p) (λ p. then (dropped seat p) (λ p. come (settled time seat p))) in
       comes_of
       (told_handed r b.trace.tag (then (back_by (back_of row (anywhere b)) (is_stray row) p) next)
       (backed (back_of row (anywhere b)) (is_stray row) p next
-      (then_settled kept c time here
-      (where_leaves (has_machine p seat) step (went_leaves kept (look seat here there (loosened (fine_of g))) r.state machine_why.Reset new (λ k. k refl) (handed_edge h b time on fed)) (record { same = refl; new = tt; fine = loosened (fine_of g) })))))
+      (then_settled kept seat here there c time
+      (where_leaves (has_machine p seat) step (went_leaves kept (look seat here there (looser (λ a k l t. tt) (fine_of g))) r.state machine_why.Reset new (λ k. k refl) (handed_edge h b time on fed)) (record { same = refl; new = tt; fine = looser (λ a k l t. tt) (fine_of g) })))))
       (λ _. tt)
 
 -- ---- a packet is delivered
@@ -173,10 +161,10 @@ module _ {o : OwnFlows} {C : Coming} {Is : Numbering → Seat → Now → Type 0
   delivered_comes time b e =
       let x = view p books seat in
       let q = without_packet seat p in
-      let h : AreFineBut Is (Others seat.app) m ordinals (with_down seat b.picture.payload books) q seat (delivered_view b) =
-      book_but (machine_but (look seat here there (loosened (fine_of g))) (without_delivery x.machine)) (record (books seat) { down = (books seat).down ++ b.picture.payload ∷ [] }) in
-      subst (λ (r : PlainRdp). Comes Is m ordinals (with_down seat b.picture.payload books) p.conns.apps (then (went r.state machine_why.Reset seat (delivering time r) q) (dropped seat.app))) (sym (ap (λ (v : View). v.machine) h.seen))
+      let h : AreFineBut Is (IsOther seat) m ordinals (with_down seat b.picture.payload books) q seat (delivered_view b) =
+      book_but (machine_but (look seat here there (looser (λ a k l t. tt) (fine_of g))) (without_delivery x.machine)) (record (books seat) { down = (books seat).down ++ b.picture.payload ∷ [] }) in
+      subst (λ (r : PlainRdp). Comes Is m ordinals (with_down seat b.picture.payload books) p.conns.apps (then (went r.state machine_why.Reset seat (delivering time r) q) (dropped seat))) (sym (ap (λ (v : View). v.machine) h.seen))
       (comes_of
-      (then_dropped kept (went (without_delivery x.machine).state machine_why.Reset seat (delivering time (without_delivery x.machine)) q) here
+      (then_dropped kept seat here there (went (without_delivery x.machine).state machine_why.Reset seat (delivering time (without_delivery x.machine)) q)
       (went_leaves kept h (without_delivery x.machine).state machine_why.Reset (delivering time (without_delivery x.machine)) (λ k. k refl) (delivered_edge time b e)))
       (λ _. tt))

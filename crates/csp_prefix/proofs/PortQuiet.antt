@@ -30,8 +30,8 @@ use Rattle.csp_socket.specs.Bound.{owner_of, with_owner}
 use Rattle.csp_prefix.proofs.PortChanges.{IsUse, at_view, use_fine}
 use Rattle.csp_prefix.proofs.PortFacts.{All, IsReliable, IsResting, either, fine_of, good_of}
 use Rattle.csp_prefix.proofs.PortSlots.{AreFine, AreFineBut, IsFine, IsQuiet, look, machine_but, none_some, owing_quiet, owing_shape, reshaped, whole}
-use Rattle.csp_prefix.proofs.PortViews.{View, now_of, view}
-use Rattle.csp_prefix.specs.Ports.{AreGood, Books, IsReliableOn, IsSlot, Ordinals, ends_due, now_at, waiting_on}
+use Rattle.csp_prefix.proofs.PortViews.{View, now_of, view, with_state}
+use Rattle.csp_prefix.specs.Ports.{AreGood, Books, IsReliableOn, IsSlot, Ordinals, ends_due, now_at, waiting_payload}
 use Rattle.csp_prefix.specs.Slots.{Coming, IsKept, Now, Numbering, blank}
 
 -- ---- lists with another element
@@ -64,7 +64,6 @@ module _ {Is : Numbering → Seat → Now → Type 0} {m : Numbering} {ordinals 
     few = g.few;
     conns = g.conns;
     states = g.states;
-    places = g.places;
     made = g.made;
     owners = g.owners;
     owed = g.owed;
@@ -83,8 +82,8 @@ module _ {Is : Numbering → Seat → Now → Type 0} {m : Numbering} {ordinals 
         slots = λ a k l.
             let f = h.slots a k l in
             set_all p.slots (place_of seat) (place_of a) (untold (state_at p seat)) untouched
-            (λ (x : SlotState). IsFine Is All m (ordinals a) a (record (view p books a) { terms = x.terms; machine = machine_in x }))
-            (λ e. subst (λ (k : ℕ). let x = untold (get_or p.slots k untouched) in IsFine Is All m (ordinals a) a (record (view p books a) { terms = x.terms; machine = machine_in x })) e
+            (λ (x : SlotState). IsFine Is All m (ordinals a) a (with_state x (view p books a)))
+            (λ e. subst (λ (k : ℕ). IsFine Is All m (ordinals a) a (with_state (untold (get_or p.slots k untouched)) (view p books a))) e
             (told_fine (view p books a) f))
             f;
       })
@@ -112,7 +111,6 @@ module _ {Is : Numbering → Seat → Now → Type 0} {m : Numbering} {ordinals 
     few = g.few;
     conns = g.conns;
     states = g.states;
-    places = g.places;
     made = g.made;
     owners = λ q. set_all p.bound port q (Some (app, need)) None (λ (x : Option (ℕ × ℕ)). IfSome x (λ o. o.0 < p.conns.apps)) (λ _. here) (g.owners q);
     owed = g.owed;
@@ -142,17 +140,16 @@ opens_good Is apps home few = record {
   few = few;
   conns = length-replicate (apps * SLOTS) has.Free;
   states = refl;
-  places = refl;
   made = refl;
   owners = λ port. subst (λ (x : Option (ℕ × ℕ)). IfSome x (λ o. o.0 < apps)) (sym (replicate_get 48 port None)) tt;
   owed = tt;
   counted = λ a k l. ap (λ (x : SlotState). x.terms.ordinal) (replicate_get 16 (place_of a) untouched);
-  waits = λ app s k e. absurd (none_some s (sym (replicate_get 4 app None) ∙ e));
+  waits = λ a k l payload e. absurd (none_some payload (sym (ap (λ (x : SlotState). waiting_payload x.stalled) (replicate_get 16 (place_of a) untouched)) ∙ e));
   ends = λ a k l. ap (λ (x : SlotState). ends_due x.terms.wish) (sym (replicate_get 16 (place_of a) untouched));
   over = λ a k l e. ap (λ (x : SlotState). (machine_in x).state) (replicate_get 16 (place_of a) untouched);
   slots = λ a k l.
       subst (λ (w : Slot). IsSlot Is w (terms_at (ports_of apps) a) (record { made = 0; home = home }) a (now_at (ports_of apps) (λ _. blank) a)) (sym (replicate_get (apps * SLOTS) (place_of a) has.Free))
-      (record { machine = ap machine_in (replicate_get 16 (place_of a) untouched); waits = ap (waiting_on a.slot) (replicate_get 4 a.app None); book = refl }, ap (λ (x : SlotState). x.terms.wish) (replicate_get 16 (place_of a) untouched));
+      (record { machine = ap machine_in (replicate_get 16 (place_of a) untouched); waits = ap (λ (x : SlotState). waiting_payload x.stalled) (replicate_get 16 (place_of a) untouched); book = refl }, ap (λ (x : SlotState). x.terms.wish) (replicate_get 16 (place_of a) untouched));
 }
 
 -- ---- the connection of a slot as it is
@@ -183,11 +180,11 @@ taken_state r = go r.state
     go Closed = refl
 
 -- a reliable connection on a fine slot, where there is one
-pub use_of : {Is : Numbering → Seat → Now → Type 0} {Tight : ℕ → Type 0} {m : Numbering} {ordinal : ℕ} {seat : Seat} {v : View} → IsFine Is Tight m ordinal seat v → IsReliable Is m seat v → IsUse Is m ordinal seat v (now_of v)
+pub use_of : {Is : Numbering → Seat → Now → Type 0} {Tight : Seat → Type 0} {m : Numbering} {ordinal : ℕ} {seat : Seat} {v : View} → IsFine Is Tight m ordinal seat v → IsReliable Is m seat v → IsUse Is m ordinal seat v (now_of v)
 use_of f r = record { connection = r.connection; what = r.what; reliable = r.reliable; counted = f.counted; ends = f.ends; over = f.over; holds = r.holds }
 
 -- another machine by a step that leaves its state
-pub stepped_fine : {Is : Numbering → Seat → Now → Type 0} {Tight : ℕ → Type 0} {m : Numbering} {ordinals : Ordinals} {books : Books} {seat : Seat} (q : PlainPorts) (v : View) (r : PlainRdp) → AreFineBut Is Tight m ordinals books q seat (record v { machine = r })
+pub stepped_fine : {Is : Numbering → Seat → Now → Type 0} {Tight : Seat → Type 0} {m : Numbering} {ordinals : Ordinals} {books : Books} {seat : Seat} (q : PlainPorts) (v : View) (r : PlainRdp) → AreFineBut Is Tight m ordinals books q seat (record v { machine = r })
     → r.state ≡ v.machine.state → IsFine Is Tight m (ordinals seat) seat v → IsReliable Is m seat v → Is m seat (now_of (record v { machine = r })) → AreFine Is Tight m ordinals books q
 stepped_fine q v r h same f k is =
     whole h
@@ -202,7 +199,7 @@ used_on {Is} {m} {ordinals} {books} {p} seat here there g busy = go (either Is m
     go (inr k) = k
 
 -- another machine, by what is there
-pub machine_by : {Is : Numbering → Seat → Now → Type 0} {Tight : ℕ → Type 0} {m : Numbering} {ordinals : Ordinals} {books : Books} {p : PlainPorts} {seat : Seat} {v : View} (f : PlainRdp → PlainRdp) → AreFineBut Is Tight m ordinals books p seat v
+pub machine_by : {Is : Numbering → Seat → Now → Type 0} {Tight : Seat → Type 0} {m : Numbering} {ordinals : Ordinals} {books : Books} {p : PlainPorts} {seat : Seat} {v : View} (f : PlainRdp → PlainRdp) → AreFineBut Is Tight m ordinals books p seat v
     → AreFineBut Is Tight m ordinals books (with_machine p seat (f (machine_at p seat))) seat (record v { machine = f v.machine })
 machine_by {Is} {Tight} {m} {ordinals} {books} {p} {seat} {v} f h =
     subst (λ (v : View). AreFineBut Is Tight m ordinals books (with_machine p seat (f (machine_at p seat))) seat (record v { machine = f v.machine })) h.seen (machine_but (at_view h) (f (machine_at p seat)))

@@ -1,12 +1,13 @@
 -- the timers of all reliable connections
-use Rattle.std.specs.Prelude.{◌==◌, Bool, true, false, Some, if◌then◌else◌}
+use Rattle.std.specs.Prelude.{◌==◌, Bool, true, false, Some, if◌then◌else◌, nat_lt}
 use Rattle.std.specs.List.{AllByRecursion, range_with_len}
-use Rattle.std.proofs.Common.{◌≡◌, ◌⊎◌, inl, inr, ℕ, zero, suc, ◌+◌, ◌*◌, ◌/◌, ◌%◌, ◌<◌, List, [], ◌∷◌, arith, refl, sym, subst}
+use Rattle.std.proofs.Common.{◌≡◌, ◌⊎◌, inl, inr, ℕ, zero, suc, ◌+◌, ◌*◌, ◌/◌, ◌%◌, ◌<◌, ◌≤◌, List, [], ◌∷◌, arith, refl, sym, subst}
+use Rattle.std.proofs.lemmas.Bool.{ltb-false, ltb-true}
 use Rattle.csp_base.specs.declared.seat.Seat.{Seat}
 use Rattle.csp_base.specs.declared.limits.TheConstants.{SLOTS}
-use Rattle.csp_conn.specs.PlainConns.{seat_of}
+use Rattle.csp_conn.specs.PlainConns.{place_of, seat_of}
 use Rattle.csp_ports.specs.PlainPorts.{PlainPorts, has_machine, machine_at}
-use Rattle.csp_ports.specs.Steps.{dropped, dropped_of, timed, timed_at, timed_in, went}
+use Rattle.csp_ports.specs.Steps.{dropped, dropped_in, timed, timed_at, timed_in, went}
 use Rattle.csp_ports.specs.declared.flows.OwnFlows.{OwnFlows}
 use Rattle.csp_rdp.specs.Holding.{rested}
 use Rattle.csp_rdp.specs.Jobs.{ticked, timed_out}
@@ -16,17 +17,16 @@ use Rattle.csp_rdp.specs.declared.answers.State.TheVariants.{Closed, CloseWait, 
 use Rattle.csp_rdp.specs.declared.answers.Cause.TheVariants as machine_why
 use Rattle.csp_rdp_window.specs.Times.{has_passed}
 use Rattle.csp_prefix.proofs.PortChanges.{IsEdge, went_leaves}
-use Rattle.csp_prefix.proofs.PortFacts.{IsReliable, IsResting, Leaves, either, fine_of, good_of, then_leaves, where_leaves}
-use Rattle.csp_prefix.proofs.PortPackets.{loosened}
+use Rattle.csp_prefix.proofs.PortFacts.{All, IsReliable, IsResting, Leaves, comes_of, either, fine_of, then_leaves, where_leaves}
 use Rattle.csp_prefix.proofs.PortRoom.{dropped_leaves}
-use Rattle.csp_prefix.proofs.PortSlots.{AreFine, IsFine, look, machine_but, whole}
-use Rattle.csp_prefix.proofs.PortViews.{now_of, view}
+use Rattle.csp_prefix.proofs.PortSlots.{AreFine, IsFine, look, looser, machine_but, whole}
+use Rattle.csp_prefix.proofs.PortViews.{IsOther, now_of, seats_same, view}
 use Rattle.csp_prefix.specs.Ports.{AreGood, Books, Comes, Ordinals}
 use Rattle.csp_prefix.specs.Slots.{Coming, IsKept, Now, Numbering, Opens}
 use Rattle.csp_prefix.specs.Slots.{with_machine}
 
--- no application
-abbrev Never : ℕ → Type 0
+-- no slot
+abbrev Never : Seat → Type 0
 Never _ = ⊥
 
 -- ---- one timer
@@ -123,15 +123,18 @@ range_below : (a n most : ℕ) → a + n ≡ most → AllByRecursion (λ k. k < 
 range_below a zero most e = tt
 range_below a (suc n) most e = (omega (arith, e), range_below (a + 1) n most (omega (arith, e)))
 
-looser : {Is : Numbering → Seat → Now → Type 0} {Loose Tight : ℕ → Type 0} {m : Numbering} {ordinals : Ordinals} {books : Books} {p : PlainPorts} → ((a : ℕ) → a < p.conns.apps → Tight a → Loose a) → AreFine Is Loose m ordinals books p → AreFine Is Tight m ordinals books p
-looser wider h = record {
-  shape = h.shape;
-  slots = λ a k l. let f = h.slots a k l in record { counted = f.counted; ends = f.ends; over = f.over; waits = λ t. f.waits (wider a.app k t); holds = f.holds };
-}
+-- the slots before this place
+abbrev Before : ℕ → Seat → Type 0
+Before k a = place_of a < k
 
--- the applications before this one
-abbrev Before : ℕ → ℕ → Type 0
-Before n k = k < n
+before_next : (k : ℕ) (a : Seat) → a.slot < 4 → Before (k + 1) a → IsOther (seat_of k) a → Before k a
+before_next k a low t other = by_test (nat_lt (place_of a) k) refl
+  where
+    by_test : (b : Bool) → nat_lt (place_of a) k ≡ b → place_of a < k
+    by_test true e = ltb-true (place_of a) k e
+    by_test false e =
+        let past : k ≤ place_of a = ltb-false (place_of a) k e in
+        absurd (other (seats_same (seat_of k) a (omega (arith, t, past, low)) (omega (arith, t, past, low))))
 
 module _ {o : OwnFlows} {C : Coming} {Is : Numbering → Seat → Now → Type 0} (kept : IsKept o C Is) {m : Numbering} {ordinals : Ordinals} (time apps : ℕ) where
   timed_one : {books : Books} {p : PlainPorts} (k : ℕ) → k < apps * 4 → p.conns.apps ≡ apps → AreFine Is Never m ordinals books p → Leaves Is Never m ordinals books apps (timed_at time (seat_of k) p)
@@ -146,34 +149,29 @@ module _ {o : OwnFlows} {C : Coming} {Is : Numbering → Seat → Now → Type 0
       let first : Leaves Is Never m ordinals books apps (timed_at time (seat_of k) p) = timed_one k below.0 same h in
       then_leaves (timed_at time (seat_of k) p) (timed_in time ks) first (timed_all ks below.1 first.same first.fine)
 
-  dropped_one : {books : Books} {p : PlainPorts} (a : ℕ) → a < apps → p.conns.apps ≡ apps → AreFine Is (Before a) m ordinals books p → Leaves Is (Before (a + 1)) m ordinals books apps (dropped a p)
-  dropped_one {books} {p} a below same h =
-      subst (λ (n : ℕ). Leaves Is (Before (a + 1)) m ordinals books n (dropped a p)) same
-      (dropped_leaves kept a (subst (λ (n : ℕ). a < n) (sym same) below) h {Tight = Before (a + 1)} (λ k t other. closer a k t other))
-    where
-      closer : (a k : ℕ) → k < a + 1 → (k ≡ a → ⊥) → k < a
-      closer a k t other = omega (arith, t, other)
+  dropped_one : {books : Books} {p : PlainPorts} (k : ℕ) → k < apps * 4 → p.conns.apps ≡ apps → AreFine Is (Before k) m ordinals books p → Leaves Is (Before (k + 1)) m ordinals books apps (dropped (seat_of k) p)
+  dropped_one {books} {p} k below same h =
+      let d = divides k apps below in
+      subst (λ (n : ℕ). Leaves Is (Before (k + 1)) m ordinals books n (dropped (seat_of k) p)) same
+      (dropped_leaves kept (seat_of k) (subst (λ (n : ℕ). k / SLOTS < n) (sym same) d.0) d.1 h {Tight = Before (k + 1)} (before_next k))
 
-  dropped_all : (n a : ℕ) {books : Books} {p : PlainPorts} → a + n ≡ apps → p.conns.apps ≡ apps → AreFine Is (Before a) m ordinals books p → Leaves Is (Before apps) m ordinals books apps (dropped_of (range_with_len a n) p)
-  dropped_all zero a e same h = record { same = same; new = tt; fine = looser (λ k l t. omega (arith, e, t)) h }
-  dropped_all (suc n) a {books} {p} e same h =
-      let first : Leaves Is (Before (a + 1)) m ordinals books apps (dropped a p) = dropped_one a (omega (arith, e)) same h in
-      then_leaves (dropped a p) (dropped_of (range_with_len (a + 1) n)) first (dropped_all n (a + 1) (omega (arith, e)) first.same first.fine)
+  dropped_all : (n k : ℕ) {books : Books} {p : PlainPorts} → k + n ≡ apps * 4 → p.conns.apps ≡ apps → AreFine Is (Before k) m ordinals books p → Leaves Is All m ordinals books apps (dropped_in (range_with_len k n) p)
+  dropped_all zero k {books} {p} e same h = record { same = same; new = tt; fine = looser (λ a here low t. omega (arith, e, same, here, low)) h }
+  dropped_all (suc n) k {books} {p} e same h =
+      let first : Leaves Is (Before (k + 1)) m ordinals books apps (dropped (seat_of k) p) = dropped_one k (omega (arith, e)) same h in
+      then_leaves (dropped (seat_of k) p) (dropped_in (range_with_len (k + 1) n)) first (dropped_all n (k + 1) (omega (arith, e)) first.same first.fine)
 
 module _ {o : OwnFlows} {C : Coming} {Is : Numbering → Seat → Now → Type 0} (kept : IsKept o C Is) {m : Numbering} {ordinals : Ordinals} {books : Books} {p : PlainPorts} (g : AreGood Is m ordinals books p) (time : ℕ) where
   all_timed : Leaves Is Never m ordinals books p.conns.apps (timed_in time (range_with_len 0 (p.conns.apps * SLOTS)) p)
-  all_timed = timed_all kept time p.conns.apps (range_with_len 0 (p.conns.apps * SLOTS)) (range_below 0 (p.conns.apps * 4) (p.conns.apps * 4) (omega arith)) refl (loosened (fine_of g))
+  all_timed = timed_all kept time p.conns.apps (range_with_len 0 (p.conns.apps * SLOTS)) (range_below 0 (p.conns.apps * 4) (p.conns.apps * 4) (omega arith)) refl (looser (λ a k l t. tt) (fine_of g))
 
-  all_dropped : {bs : Books} {q : PlainPorts} → q.conns.apps ≡ p.conns.apps → AreFine Is Never m ordinals bs q → Leaves Is (Before p.conns.apps) m ordinals bs p.conns.apps (dropped_of (range_with_len 0 q.conns.apps) q)
+  all_dropped : {bs : Books} {q : PlainPorts} → q.conns.apps ≡ p.conns.apps → AreFine Is Never m ordinals bs q → Leaves Is All m ordinals bs p.conns.apps (dropped_in (range_with_len 0 (q.conns.apps * SLOTS)) q)
   all_dropped {bs} {q} same h =
-      subst (λ (n : ℕ). Leaves Is (Before n) m ordinals bs n (dropped_of (range_with_len 0 q.conns.apps) q)) same
-      (dropped_all kept time q.conns.apps q.conns.apps 0 (omega arith) refl (looser (λ k l t. absurd (omega (arith, t))) h))
+      subst (λ (n : ℕ). Leaves Is All m ordinals bs n (dropped_in (range_with_len 0 (q.conns.apps * SLOTS)) q)) same
+      (dropped_all kept time q.conns.apps (q.conns.apps * 4) 0 (omega arith) refl (looser (λ a k l t. absurd (omega (arith, t))) h))
 
   pub timed_comes : Comes Is m ordinals books p.conns.apps (timed time p)
   timed_comes =
-      let k = then_leaves (timed_in time (range_with_len 0 (p.conns.apps * SLOTS)) p) (λ p. dropped_of (range_with_len 0 p.conns.apps) p) all_timed (all_dropped all_timed.same all_timed.fine) in
-      record {
-        same = k.same;
-        new = k.new;
-        good = good_of (looser (λ a l t. subst (λ (n : ℕ). a < n) k.same l) k.fine);
-      }
+      comes_of
+      (then_leaves (timed_in time (range_with_len 0 (p.conns.apps * SLOTS)) p) (λ p. dropped_in (range_with_len 0 (p.conns.apps * SLOTS)) p) all_timed (all_dropped all_timed.same all_timed.fine))
+      (λ _. tt)

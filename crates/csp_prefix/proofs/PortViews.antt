@@ -10,11 +10,12 @@ use Rattle.csp_conn.specs.PlainConns.{place_of, slot_at}
 use Rattle.csp_conn.specs.Slots.{is_free}
 use Rattle.csp_conn.specs.declared.slot.Slot.{Slot}
 use Rattle.csp_conn.specs.declared.slot.Slot.TheVariants as has
-use Rattle.csp_ports.specs.PlainPorts.{PlainPorts, machine_at, stalled_at, terms_at}
+use Rattle.csp_ports.specs.PlainPorts.{PlainPorts, machine_at, machine_in, stalled_at, terms_at}
 use Rattle.csp_ports.specs.declared.owed.Owed.{Owed}
+use Rattle.csp_ports.specs.declared.terms.SlotState.{SlotState}
 use Rattle.csp_ports.specs.declared.terms.Terms.{Terms}
 use Rattle.csp_rdp.specs.Machine.{PlainRdp}
-use Rattle.csp_prefix.specs.Ports.{Books, Ordinals, connection_in, is_end_of, is_same, waiting_on, with_book, with_ordinal}
+use Rattle.csp_prefix.specs.Ports.{Books, Ordinals, connection_in, is_end_of, is_same, waiting_payload, with_book, with_ordinal}
 use Rattle.csp_prefix.specs.Slots.{Book, Now}
 
 -- all that the ports and the log have of a slot
@@ -31,10 +32,14 @@ view p books seat = record {
   what = slot_at p.conns seat;
   terms = terms_at p seat;
   machine = machine_at p seat;
-  waits = waiting_on seat.slot (stalled_at p seat.app);
+  waits = waiting_payload (stalled_at p seat);
   ends = count_by (is_end_of seat) p.owed;
   book = books seat;
 }
+
+-- what the ports keep of a slot is seen there
+abbrev pub with_state : SlotState → View → View
+with_state x v = record v { terms = x.terms; machine = machine_in x; waits = waiting_payload x.stalled }
 
 -- the connection there
 abbrev pub now_of : View → Now

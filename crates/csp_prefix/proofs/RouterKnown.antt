@@ -76,7 +76,6 @@ module _ (Is Js : Numbering → Seat → Now → Type 0) (m m' : Numbering) (ord
     few = good.few;
     conns = good.conns;
     states = good.states;
-    places = good.places;
     made = good.made ∙ sym same;
     owners = good.owners;
     owed = good.owed;

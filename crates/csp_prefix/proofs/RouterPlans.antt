@@ -1,12 +1,12 @@
 -- what the plan of a turn says of the ports
-use Rattle.std.proofs.Common.{◌≡◌, ℕ, ◌*◌, ◌<◌, ◌==◌, Bool, true, false, not, cond, nat_lt, Option, None, Some, List, [], ◌∷◌, refl, subst, arith, find}
+use Rattle.std.proofs.Common.{◌≡◌, ℕ, ◌*◌, ◌<◌, ◌==◌, Bool, true, false, cond, nat_lt, Option, None, Some, List, [], ◌∷◌, refl, subst, arith, find}
 use Rattle.std.specs.Prelude.{if◌then◌else◌, is_some}
 use Rattle.std.specs.Option.{option_map}
-use Rattle.std.proofs.lemmas.Bool.{and_parts, ltb-true}
+use Rattle.std.proofs.lemmas.Bool.{and_parts, eqb-true, ltb-true}
 use Rattle.csp_base.specs.declared.seat.Seat.{Seat}
 use Rattle.csp_base.specs.declared.limits.TheConstants.{SLOTS}
 use Rattle.csp_conn.specs.PlainConns.{seat_of}
-use Rattle.csp_ports.specs.PlainPorts.{PlainPorts, machine_at, stalled_at, terms_at, waiting}
+use Rattle.csp_ports.specs.PlainPorts.{PlainPorts, machine_at, stalls_of, terms_at, waiting}
 use Rattle.csp_ports.specs.Tasks.{circle, has_task, next_task, place_with_task, task_at, task_by, task_of, task_with}
 use Rattle.csp_ports.specs.declared.task.Task.{Task}
 use Rattle.csp_ports.specs.declared.task.Task.TheVariants as task
@@ -32,12 +32,8 @@ found_passes p (k ∷ ks) n e = by_test (p k) refl (found_passes p ks n) e
     by_test false q more e = more e
 
 -- an application is served only where no packet of it waits
-none_some : {X : Type 0} (o : Option X) → not (is_some o) ≡ true → o ≡ None
-none_some None e = refl
-none_some (Some x) e = absurd cc
-
-pub serves_free : (s : RouterState) (time k : ℕ) → has_work s time (source.App k) ≡ true → stalled_at s.ports k ≡ None
-serves_free s time k e = none_some (stalled_at s.ports k) (and_parts (waiting k s.ports.owed == 0) (not (is_some (stalled_at s.ports k))) e).1
+pub serves_free : (s : RouterState) (time k : ℕ) → has_work s time (source.App k) ≡ true → stalls_of k s.ports.slots ≡ 0
+serves_free s time k e = eqb-true (stalls_of k s.ports.slots) 0 (and_parts (waiting k s.ports.owed == 0) (stalls_of k s.ports.slots == 0) e).1
 
 -- ---- tasks
 made_job : (down : Bool) (o : Option Job) (j : Job) → task_by down o ≡ Some (task.Make j) → o ≡ Some j

@@ -24,11 +24,12 @@ use Rattle.csp_log.specs.declared.shown.AnswerShown.TheVariants as answer
 use Rattle.csp_log.specs.declared.shown.ItemShown.{ItemShown}
 use Rattle.csp_log.specs.declared.shown.ItemShown.TheVariants as item
 use Rattle.csp_log.specs.declared.shown.OpShown.TheVariants as op
+use Rattle.csp_ports.proofs.Public.{none_stalled}
 use Rattle.csp_ports.specs.Asking.{bind, close, connect}
 use Rattle.csp_ports.specs.Asking.{is_reliable}
 use Rattle.csp_ports.specs.Came.{Came}
 use Rattle.csp_ports.specs.Packets.{submitting}
-use Rattle.csp_ports.specs.PlainPorts.{PlainPorts, machine_at, stalled_at, terms_at}
+use Rattle.csp_ports.specs.PlainPorts.{PlainPorts, machine_at, stalled_at, stalls_of, terms_at}
 use Rattle.csp_ports.specs.declared.request.Request.{Request}
 use Rattle.csp_ports.specs.declared.terms.Terms.{Terms}
 use Rattle.csp_rdp.specs.declared.answers.State.{State as MachineState}
@@ -125,7 +126,7 @@ module _ (g : Aim) (f : Facts) (whole : Past) (k : IsAim g f whole) where
 
   -- ---- a packet for a slot
   by_connection_so : (reliable : Bool) (c : Connection) (h : Past) (s : State) (seat : Seat) (time : ℕ) (b : Content) → slot_at s.ports.conns seat ≡ has.Open c → is_reliable (terms_at s.ports seat).flags ≡ reliable
-      → seat.app < s.ports.conns.apps → seat.slot < SLOTS → stalled_at s.ports seat.app ≡ None → s.out ≡ None → IsUntraced (item.Packet seat.slot b) → Stands g f h s.ports s.out → Serves h seat.app (item.Packet seat.slot b) (if reliable then ported s (submitting s.ports seat b time) else sent_on c (router f s) seat b)
+      → seat.app < s.ports.conns.apps → seat.slot < SLOTS → stalled_at s.ports seat ≡ None → s.out ≡ None → IsUntraced (item.Packet seat.slot b) → Stands g f h s.ports s.out → Serves h seat.app (item.Packet seat.slot b) (if reliable then ported s (submitting s.ports seat b time) else sent_on c (router f s) seat b)
   by_connection_so false c h s seat time b there plain few low free empty untraced w =
       let told : ℕ = (terms_at s.ports seat).ordinal in
       let x : Content = addressed f c (terms_at s.ports seat) b in
@@ -179,13 +180,13 @@ module _ (g : Aim) (f : Facts) (whole : Past) (k : IsAim g f whole) where
             out = none_out w.books;
           }))
 
-  by_slot_so : (o : Slot) (h : Past) (s : State) (seat : Seat) (time : ℕ) (b : Content) → slot_at s.ports.conns seat ≡ o → seat.app < s.ports.conns.apps → seat.slot < SLOTS → stalled_at s.ports seat.app ≡ None → s.out ≡ None
+  by_slot_so : (o : Slot) (h : Past) (s : State) (seat : Seat) (time : ℕ) (b : Content) → slot_at s.ports.conns seat ≡ o → seat.app < s.ports.conns.apps → seat.slot < SLOTS → stalled_at s.ports seat ≡ None → s.out ≡ None
       → IsUntraced (item.Packet seat.slot b) → Stands g f h s.ports s.out → Serves h seat.app (item.Packet seat.slot b) (by_slot o (router f s) seat time b)
   by_slot_so has.Free h s seat time b there few low free empty untraced w = quiet_packet h seat.app seat.slot b (discarded s why.NoConn b) (discarded_unsent why.NoConn) (stands_discarded g f whole k h s why.NoConn b w)
   by_slot_so has.Held h s seat time b there few low free empty untraced w = quiet_packet h seat.app seat.slot b (discarded s why.NoConn b) (discarded_unsent why.NoConn) (stands_discarded g f whole k h s why.NoConn b w)
   by_slot_so (has.Open c) h s seat time b there few low free empty untraced w = by_connection_so (is_reliable (terms_at s.ports seat).flags) c h s seat time b there refl few low free empty untraced w
 
-  by_mark_so : (unmarked : Bool) (h : Past) (s : State) (app mark time : ℕ) (b : Content) → (mark == UNMARKED) ≡ unmarked → app < s.ports.conns.apps → IsUpItem (item.Packet mark b) → stalled_at s.ports app ≡ None → s.out ≡ None
+  by_mark_so : (unmarked : Bool) (h : Past) (s : State) (app mark time : ℕ) (b : Content) → (mark == UNMARKED) ≡ unmarked → app < s.ports.conns.apps → IsUpItem (item.Packet mark b) → stalls_of app s.ports.slots ≡ 0 → s.out ≡ None
       → IsUntraced (item.Packet mark b) → g.comes (item.Packet mark b) → Stands g f h s.ports s.out → Serves h app (item.Packet mark b) (by_mark unmarked (router f s) (seat app mark) time b)
   by_mark_so true h s app mark time b e few up free empty untraced comes w =
       let good = k.unmarked mark b e (ap (λ x. x.tag) untraced) comes in
@@ -193,10 +194,10 @@ module _ (g : Aim) (f : Facts) (whole : Past) (k : IsAim g f whole) where
       quiet_packet h app mark b (sent f s b) off.unsent (stands_sent g f whole k h s b w good)
   by_mark_so false h s app mark time b e few up free empty untraced comes w =
       let marked : mark ≢ UNMARKED = λ is. absurd (let same : (mark == UNMARKED) ≡ true = eq-eqb mark UNMARKED is in cc) in
-      by_slot_so (slot_at s.ports.conns (seat app mark)) h s (seat app mark) time b refl few (up marked).0 free empty untraced w
+      by_slot_so (slot_at s.ports.conns (seat app mark)) h s (seat app mark) time b refl few (up marked).0 (none_stalled s.ports (seat app mark) (up marked).0 free) empty untraced w
 
   -- ---- a request
-  requested_so : (n : Note) (h : Past) (s : State) (app time : ℕ) → app < s.ports.conns.apps → IsUpItem (item.Note n) → stalled_at s.ports app ≡ None → g.comes (item.Note n) → Stands g f h s.ports s.out → Quietly g f whole k h (requested f s app time n)
+  requested_so : (n : Note) (h : Past) (s : State) (app time : ℕ) → app < s.ports.conns.apps → IsUpItem (item.Note n) → stalls_of app s.ports.slots ≡ 0 → g.comes (item.Note n) → Stands g f h s.ports s.out → Quietly g f whole k h (requested f s app time n)
   requested_so (note.Bind port need) h s app time few up free comes w =
       stands_unchanged g f whole k h (record s { ports = bind s.ports app port need })
       (record { numbering = w.numbering; books = w.books; good = k.ports.binds w.numbering h.ends w.books s.ports app port need few w.good; tells = w.tells; apps = bind_apps ∙ w.apps; out = w.out })
@@ -213,14 +214,14 @@ module _ (g : Aim) (f : Facts) (whole : Past) (k : IsAim g f whole) where
       λ fresh. stands_comes g f h s.ports s.out w done.after (connect (flows_of f) s.ports r time) done.goes_on k.grows done.comes
   requested_so (note.Close slot) h s app time few up free comes w =
       λ fresh. stands_comes g f h s.ports s.out w w.numbering (close s.ports (seat app slot) time) (record { more = omega arith; same = λ n lt. refl }) k.grows
-      (k.ports.closes w.numbering h.ends w.books s.ports (seat app slot) time few up free w.good)
+      (k.ports.closes w.numbering h.ends w.books s.ports (seat app slot) time few up (none_stalled s.ports (seat app slot) up free) w.good)
   requested_so note.Bound h s app time few up free comes w = stands_unchanged g f whole k h s w
   requested_so (note.Connected slot) h s app time few up free comes w = stands_unchanged g f whole k h s w
   requested_so (note.Refused reason) h s app time few up free comes w = stands_unchanged g f whole k h s w
   requested_so (note.Closed slot) h s app time few up free comes w = stands_unchanged g f whole k h s w
   requested_so (note.Down slot) h s app time few up free comes w = stands_unchanged g f whole k h s w
 
-  pub stands_served : (i : ItemShown) (h : Past) (s : State) (app time : ℕ) → app < s.ports.conns.apps → IsUpItem i → IsUntraced i → g.comes i → stalled_at s.ports app ≡ None → s.out ≡ None → Stands g f h s.ports s.out
+  pub stands_served : (i : ItemShown) (h : Past) (s : State) (app time : ℕ) → app < s.ports.conns.apps → IsUpItem i → IsUntraced i → g.comes i → stalls_of app s.ports.slots ≡ 0 → s.out ≡ None → Stands g f h s.ports s.out
       → Serves h app i (served f s time app i)
   stands_served (item.Packet mark b) h s app time few up untraced comes free empty w = by_mark_so (mark == UNMARKED) h s app mark time b refl few up free empty untraced comes w
   stands_served (item.Note n) h s app time few up untraced comes free empty w = quiet_note h app n (requested f s app time n) (requested_so n h s app time few up free comes w)

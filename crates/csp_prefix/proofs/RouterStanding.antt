@@ -31,7 +31,7 @@ use Rattle.csp_record.specs.declared.connections.Opening.{Opening}
 use Rattle.csp_stack.specs.Readings.{is_checked, is_here}
 use Rattle.csp_stack.specs.Router.{Facts, Leaving, flows_of}
 use Rattle.csp_stack.specs.Rules.{addressed, answer_flags, connection_of}
-use Rattle.csp_prefix.specs.Ports.{AreGood, AreNew, ArePortsKept, Books, Comes, IsAskedSo, IsInUse, IsNew, IsSlot, Ordinals, connection_in, noted, noted_by, now_at, waiting_on, with_book}
+use Rattle.csp_prefix.specs.Ports.{AreGood, AreNew, ArePortsKept, Books, Comes, IsAskedSo, IsInUse, IsNew, IsSlot, Ordinals, connection_in, noted, noted_by, now_at, waiting_payload, with_book}
 use Rattle.csp_prefix.specs.Prefix.{IsBeginning}
 use Rattle.csp_prefix.specs.Slots.{Book, Coming, GoesOn, Now, Numbering, blank}
 use Rattle.csp_prefix.proofs.RouterBooks.{Past, Tells, book_at, opening_on, tells_grows, tells_noted, with_openings}
@@ -115,7 +115,7 @@ pub record Stands (g : Aim) (f : Facts) (h : Past) (p : PlainPorts) (leaves : Op
 
 -- ---- connections that are plain, and those that are over
 abbrev now_with : PlainPorts → Seat → Book → Now
-now_with p seat b = record { connection = connection_in (slot_at p.conns seat); flags = (terms_at p seat).flags; machine = machine_at p seat; ordinal = (terms_at p seat).ordinal; waits = waiting_on seat.slot (stalled_at p seat.app); book = b }
+now_with p seat b = record { connection = connection_in (slot_at p.conns seat); flags = (terms_at p seat).flags; machine = machine_at p seat; ordinal = (terms_at p seat).ordinal; waits = waiting_payload (stalled_at p seat); book = b }
 
 pub blank_unopened : (b : Book) (how : Option ℕ × Option (ℕ × ℕ)) → b ≡ blank → b.opened ≡ Some how → ⊥
 blank_unopened b how e is = let none : b.opened ≡ None = ap (λ (c : Book). c.opened) e in cc
@@ -158,7 +158,6 @@ module _ (g : Aim) (f : Facts) (whole : Past) (k : IsAim g f whole) where
     few = good.few;
     conns = good.conns;
     states = good.states;
-    places = good.places;
     made = good.made;
     owners = good.owners;
     owed = good.owed;

@@ -41,7 +41,7 @@ use Rattle.csp_ports.proofs.Public.{by_dropped}
 use Rattle.csp_ports.specs.Came.{Came, come, then as and_then}
 use Rattle.csp_ports.specs.Packets.{back_by, handing, handing_event, submitting, submitting_in}
 use Rattle.csp_ports.specs.PlainPorts.{PlainPorts, anywhere, has_machine, is_closing, machine_at, terms_at}
-use Rattle.csp_ports.specs.Steps.{changed, closed_by, dropped, dropped_of, refused_by, settled, stepped, timed as ports_timed, timed_at, timed_in, went, where_machine}
+use Rattle.csp_ports.specs.Steps.{changed, closed_by, dropped, dropped_in, refused_by, settled, stepped, timed as ports_timed, timed_at, timed_in, went, where_machine}
 use Rattle.csp_ports.specs.Tasks.{delivered, kept_again}
 use Rattle.csp_ports.specs.declared.handing.Invitation.{Invitation}
 use Rattle.csp_ports.specs.declared.flows.OwnFlows.{OwnFlows}
@@ -189,8 +189,8 @@ module _ (P : Event → Type 0) (lost : (reason : Discard) → P (event.Discarde
   where_so true step p h = h
   where_so false step p h = tt
 
-  dropped_so : (app : ℕ) (p : PlainPorts) → Each (dropped app p).events
-  dropped_so app p = by_dropped (λ c. Each c.events) app p (λ opens. tt) (λ s e shut. (lost why.NoConn, tt))
+  dropped_so : (seat : Seat) (p : PlainPorts) → Each (dropped seat p).events
+  dropped_so seat p = by_dropped (λ c. Each c.events) seat p (λ opens. tt) (λ b e shut. (lost why.NoConn, tt))
 
   -- the timers
   timed_at_so : (time : ℕ) (seat : Seat) (p : PlainPorts) → Each (timed_at time seat p).events
@@ -204,21 +204,23 @@ module _ (P : Event → Type 0) (lost : (reason : Discard) → P (event.Discarde
       let c = timed_at time (seat_of k) p in
       then_so c (timed_in time ks) (timed_at_so time (seat_of k) p) (timed_in_so time ks c.ports)
 
-  dropped_of_so : (apps : List ℕ) (p : PlainPorts) → Each (dropped_of apps p).events
-  dropped_of_so [] p = tt
-  dropped_of_so (app ∷ apps) p = then_so (dropped app p) (dropped_of apps) (dropped_so app p) (dropped_of_so apps (dropped app p).ports)
+  dropped_in_so : (ks : List ℕ) (p : PlainPorts) → Each (dropped_in ks p).events
+  dropped_in_so [] p = tt
+  dropped_in_so (k ∷ ks) p =
+      let c = dropped (seat_of k) p in
+      then_so c (dropped_in ks) (dropped_so (seat_of k) p) (dropped_in_so ks c.ports)
 
   pub timed_tells : (time : ℕ) (p : PlainPorts) → Each (ports_timed time p).events
   timed_tells time p =
       let c = timed_in time (range_with_len 0 (p.conns.apps * SLOTS)) p in
-      then_so c (λ q. dropped_of (range_with_len 0 q.conns.apps) q) (timed_in_so time (range_with_len 0 (p.conns.apps * SLOTS)) p) (dropped_of_so (range_with_len 0 c.ports.conns.apps) c.ports)
+      then_so c (λ q. dropped_in (range_with_len 0 (q.conns.apps * SLOTS)) q) (timed_in_so time (range_with_len 0 (p.conns.apps * SLOTS)) p) (dropped_in_so (range_with_len 0 (c.ports.conns.apps * SLOTS)) c.ports)
 
   -- a packet was delivered
   delivered_so : (time : ℕ) (seat : Seat) (p : PlainPorts) → Each (delivered time seat p).events
   delivered_so time seat p =
       let r = machine_at p seat in
       let c = went r.state machine_why.Reset seat (delivering time r) p in
-      then_so c (dropped seat.app) (went_lost r.state machine_why.Reset seat (delivering time r) p (ways-not _ (delivering time r) (ways-reset r.reset_at time _))) (dropped_so seat.app c.ports)
+      then_so c (dropped seat) (went_lost r.state machine_why.Reset seat (delivering time r) p (ways-not _ (delivering time r) (ways-reset r.reset_at time _))) (dropped_so seat c.ports)
 
   -- a packet is handed to a reliable connection
   back_so : (back : Option PlainBuffer) (stray : Bool) (p : PlainPorts) → Each (back_by back stray p).events
@@ -227,8 +229,8 @@ module _ (P : Event → Type 0) (lost : (reason : Discard) → P (event.Discarde
   back_so (Some b) false p = tt
 
   -- the packet that waits is looked at
-  abbrev looked_at : ℕ → ℕ → PlainPorts → Came
-  looked_at app time p = and_then (dropped app p) (λ q. come (settled time app q))
+  abbrev looked_at : Seat → ℕ → PlainPorts → Came
+  looked_at seat time p = and_then (dropped seat p) (λ q. come (settled time seat q))
 
   handing_so : (p : PlainPorts) (seat : Seat) (h : RdpHead) (b : Content) (time : ℕ) → (IsEarly (machine_at p seat).state → (nth : ℕ) (peer : Option (ℕ × ℕ)) → P (event.Opened seat.app seat.slot (Some nth) peer))
       → P (handing_event (machine_at p seat) b.trace.tag) → Each (handing p seat h b time).events
@@ -240,9 +242,9 @@ module _ (P : Event → Type 0) (lost : (reason : Discard) → P (event.Discarde
       let step = went r.state machine_why.Reset seat new in
       let c = where_machine (has_machine p seat) step p in (
         hands,
-        then_so back (λ q. and_then (where_machine (has_machine q seat) step q) (looked_at seat.app time)) (back_so (back_of row (anywhere b)) (is_stray row) p)
-            (then_so c (looked_at seat.app time) (where_so (has_machine p seat) step p (went_so r.state machine_why.Reset seat new p (λ o. opens (opens-early r.state new.state o))))
-            (then_so (dropped seat.app c.ports) (λ q. come (settled time seat.app q)) (dropped_so seat.app c.ports) tt)),
+        then_so back (λ q. and_then (where_machine (has_machine q seat) step q) (looked_at seat time)) (back_so (back_of row (anywhere b)) (is_stray row) p)
+            (then_so c (looked_at seat time) (where_so (has_machine p seat) step p (went_so r.state machine_why.Reset seat new p (λ o. opens (opens-early r.state new.state o))))
+            (then_so (dropped seat c.ports) (λ q. come (settled time seat q)) (dropped_so seat c.ports) tt)),
       )
 
   -- a packet of the node is sent

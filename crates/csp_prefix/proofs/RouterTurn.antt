@@ -30,7 +30,7 @@ use Rattle.csp_log.specs.declared.shown.OpShown.TheVariants as op
 use Rattle.csp_ports.specs.Asking.{answered}
 use Rattle.csp_ports.specs.Came.{Came}
 use Rattle.csp_ports.specs.Kept.{IsOwed}
-use Rattle.csp_ports.specs.PlainPorts.{PlainPorts, machine_at, stalled_at, terms_at}
+use Rattle.csp_ports.specs.PlainPorts.{PlainPorts, machine_at, stalls_of, terms_at}
 use Rattle.csp_ports.specs.Steps.{timed as ports_timed}
 use Rattle.csp_ports.specs.Tasks.{delivered, kept_again, made_in, making, next_task, told_down, turned, without_packet}
 use Rattle.csp_ports.specs.declared.owed.Owed.{Owed}
@@ -241,7 +241,7 @@ module _ (g : Aim) (f : Facts) (whole : Past) (k : IsAim g f whole) where
   turn_hear h s time a w = λ fits comes hears part fresh. absurd fits
 
   -- ---- an item of an application
-  turn_serve : (app : ℕ) (h : Past) (s : State) (time : ℕ) (a : AnswerShown) → app < f.apps → stalled_at s.ports app ≡ None → s.out ≡ None → Stands g f h s.ports s.out → Turns h s time (plan.Serve app) a
+  turn_serve : (app : ℕ) (h : Past) (s : State) (time : ℕ) (a : AnswerShown) → app < f.apps → stalls_of app s.ports.slots ≡ 0 → s.out ≡ None → Stands g f h s.ports s.out → Turns h s time (plan.Serve app) a
   turn_serve app h s time (answer.Popped i) few free empty w = λ fits comes hears part fresh.
       (stands_served g f whole k i h (at_rest (until_answer f s time (plan.Serve app))) app time (subst (λ n. app < n) (sym w.apps) few) comes.0 comes.1 hears free empty w fresh, tt)
   turn_serve app h s time answer.Empty few free empty w = λ fits comes hears part fresh.

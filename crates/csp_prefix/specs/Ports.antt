@@ -1,6 +1,7 @@
 -- What is to be known of the ports of a node, step by step, where a predicate is known of each reliable connection on a slot.
 use Rattle.std.specs.Prelude.{◌≡◌, ◌≢◌, ℕ, ◌+◌, ◌*◌, ◌<◌, ◌≤◌, ◌==◌, ◌&&◌, Bool, true, false, if◌then◌else◌, Option, None, Some, List, [], ◌∷◌, ◌++◌, length, count_by, IfSome, ⊤}
 use Rattle.std.specs.List.{AllByRecursion}
+use Rattle.std.specs.Option.{option_map}
 use Rattle.csp_base.specs.Seat.{seat}
 use Rattle.csp_base.specs.declared.priority.Prio.{Prio}
 use Rattle.csp_base.specs.declared.seat.Seat.{Seat}
@@ -23,7 +24,7 @@ use Rattle.csp_ports.specs.Asking.{is_reliable}
 use Rattle.csp_ports.specs.Came.{Came}
 use Rattle.csp_ports.specs.Kept.{IsOwed}
 use Rattle.csp_ports.specs.Packets.{accepted, handing, invited, submitting}
-use Rattle.csp_ports.specs.PlainPorts.{PlainPorts, PlainStalled, machine_at, ports_of, stalled_at, terms_at}
+use Rattle.csp_ports.specs.PlainPorts.{PlainPorts, machine_at, ports_of, stalled_at, terms_at}
 use Rattle.csp_ports.specs.Steps.{timed}
 use Rattle.csp_ports.specs.Tasks.{delivered, kept_again, making, told_down, turned, without_packet}
 use Rattle.csp_ports.specs.declared.handing.Invitation.{Invitation}
@@ -100,10 +101,9 @@ AreNew apps (e ∷ es) books = IsNew apps e books × AreNew apps es (noted_by e 
 
 -- ---- the ports between two steps
 
--- the payload of the packet that waits for room on a slot
-abbrev pub waiting_on : ℕ → Option PlainStalled → Option (List ℕ)
-waiting_on slot None = None
-waiting_on slot (Some s) = (if s.slot == slot then Some s.buffer.picture.payload else None)
+-- the payload of the packet that waits for room on a slot, where one does
+abbrev pub waiting_payload : Option PlainBuffer → Option (List ℕ)
+waiting_payload stalled = option_map (λ b. b.picture.payload) stalled
 
 -- with whom the connection on a slot is; with none there, with nobody
 abbrev pub connection_in : Slot → Connection
@@ -113,7 +113,7 @@ connection_in has.Held = between 0 0 0
 
 -- the connection on a slot
 abbrev pub now_at : PlainPorts → Books → Seat → Now
-now_at p books seat = record { connection = connection_in (slot_at p.conns seat); flags = (terms_at p seat).flags; machine = machine_at p seat; ordinal = (terms_at p seat).ordinal; waits = waiting_on seat.slot (stalled_at p seat.app); book = books seat }
+now_at p books seat = record { connection = connection_in (slot_at p.conns seat); flags = (terms_at p seat).flags; machine = machine_at p seat; ordinal = (terms_at p seat).ordinal; waits = waiting_payload (stalled_at p seat); book = books seat }
 
 -- nothing is on a slot
 pub record IsVacant (n : Now) : Type 0 where
@@ -159,12 +159,11 @@ pub record AreGood (Is : Numbering → Seat → Now → Type 0) (m : Numbering) 
   pub few : p.conns.apps ≤ MAX_APPS
   pub conns : length p.conns.slots ≡ p.conns.apps * SLOTS
   pub states : length p.slots ≡ ALL_SLOTS
-  pub places : length p.stalled ≡ MAX_APPS
   pub made : p.made ≡ m.made
   pub owners : (port : ℕ) → IfSome (owner_of p.bound port) (λ o. o.0 < p.conns.apps)
   pub owed : AllByRecursion (IsOwed p.conns.apps) p.owed
   pub counted : (seat : Seat) → seat.app < p.conns.apps → seat.slot < SLOTS → (terms_at p seat).ordinal ≡ ordinals seat
-  pub waits : (app : ℕ) (s : PlainStalled) → app < p.conns.apps → stalled_at p app ≡ Some s → (s.slot < SLOTS) × ((machine_at p (seat app s.slot)).state ≡ Open)
+  pub waits : (seat : Seat) → seat.app < p.conns.apps → seat.slot < SLOTS → (payload : List ℕ) → waiting_payload (stalled_at p seat) ≡ Some payload → (machine_at p seat).state ≡ Open
   pub ends : (seat : Seat) → seat.app < p.conns.apps → seat.slot < SLOTS → count_by (is_end_of seat) p.owed ≡ ends_due (terms_at p seat).wish
   pub over : (seat : Seat) → seat.app < p.conns.apps → seat.slot < SLOTS → (terms_at p seat).wish ≡ wish.Ended → (machine_at p seat).state ≡ Closed
   pub slots : (seat : Seat) → seat.app < p.conns.apps → seat.slot < SLOTS → IsSlot Is (slot_at p.conns seat) (terms_at p seat) m seat (now_at p books seat)
@@ -223,7 +222,7 @@ pub record ArePortsKept (o : OwnFlows) (C : Coming) (Is : Numbering → Seat →
   pub binds : (m : Numbering) (ordinals : Ordinals) (books : Books) (p : PlainPorts) (app port need : ℕ) → app < p.conns.apps → AreGood Is m ordinals books p → AreGood Is m ordinals books (bind p app port need)
   pub connects : (m : Numbering) (ordinals : Ordinals) (books : Books) (p : PlainPorts) (r : Request) (time : ℕ) → r.seat.app < p.conns.apps → r.seat.slot < SLOTS → IsAskedSo C p r
       → AreGood Is m ordinals books p → ComesWith Is m ordinals books p.conns.apps (connect o p r time)
-  pub closes : (m : Numbering) (ordinals : Ordinals) (books : Books) (p : PlainPorts) (seat : Seat) (time : ℕ) → seat.app < p.conns.apps → seat.slot < SLOTS → stalled_at p seat.app ≡ None
+  pub closes : (m : Numbering) (ordinals : Ordinals) (books : Books) (p : PlainPorts) (seat : Seat) (time : ℕ) → seat.app < p.conns.apps → seat.slot < SLOTS → stalled_at p seat ≡ None
       → AreGood Is m ordinals books p → Comes Is m ordinals books p.conns.apps (close p seat time)
   pub accepts : (m : Numbering) (ordinals : Ordinals) (books : Books) (p : PlainPorts) (seat : Seat) (c : Connection) (prio : Prio) (flags : ℕ) → seat.app < p.conns.apps → seat.slot < SLOTS
       → slot_at p.conns seat ≡ has.Free → is_reliable flags ≡ false
@@ -235,7 +234,7 @@ pub record ArePortsKept (o : OwnFlows) (C : Coming) (Is : Numbering → Seat →
       → IsReliableOn p seat → C.fed (connection_in (slot_at p.conns seat)) (machine_at p seat) h b.trace.tag b.payload
       → AreGood Is m ordinals books p → Comes Is m ordinals books p.conns.apps (handing p seat h b time)
   pub submits : (m : Numbering) (ordinals : Ordinals) (books : Books) (p : PlainPorts) (seat : Seat) (b : Content) (time : ℕ) → seat.app < p.conns.apps → seat.slot < SLOTS
-      → IsReliableOn p seat → stalled_at p seat.app ≡ None
+      → IsReliableOn p seat → stalled_at p seat ≡ None
       → AreGood Is m ordinals books p → Submits Is m ordinals books p seat b (submitting p seat b time)
   pub owes : (m : Numbering) (ordinals : Ordinals) (books : Books) (p : PlainPorts) (seat : Seat) (time : ℕ) (j : Job) → seat.app < p.conns.apps → seat.slot < SLOTS → job_of time (machine_at p seat) ≡ Some j
       → AreGood Is m ordinals books p → IsReliableOn p seat × Is m seat (now_at p books seat)

@@ -12,18 +12,18 @@ use Rattle.csp_buffer.specs.PlainBuffer.{PlainBuffer}
 use Rattle.csp_conn.specs.Opening.{is_refused, opened, own_port_of}
 use Rattle.csp_conn.specs.PlainConns.{place_of, seat_of, slot_at, with_slot}
 use Rattle.csp_conn.specs.Slots.{between, is_free}
-use Rattle.csp_base.specs.declared.limits.TheConstants.{MAX_APPS, SLOTS, ALL_SLOTS}
+use Rattle.csp_base.specs.declared.limits.TheConstants.{SLOTS, ALL_SLOTS}
 use Rattle.csp_conn.specs.declared.slot.Connection.{Connection}
 use Rattle.csp_conn.specs.declared.slot.Slot.TheVariants as has
 use Rattle.csp_log.specs.declared.event.Discard.TheVariants as why
 use Rattle.csp_log.specs.declared.note.Note.TheVariants as note
 use Rattle.csp_log.specs.declared.note.Note.{Note}
-use Rattle.csp_ports.proofs.Public.{all_or, by_dropped, by_settled, machine_listed, machines_of_machine, machines_of_terms}
+use Rattle.csp_ports.proofs.Public.{all_or, by_dropped, by_settled}
 use Rattle.csp_ports.specs.Asking.{answered, answered_by, asking, close, close_by, connect, ending_in, freed_by, held_by, is_reliable, joined, linked, plain}
 use Rattle.csp_ports.specs.Came.{Came, come, discarding, pictures, then}
 use Rattle.csp_ports.specs.Packets.{accepted, admitting_by, back_by, handing, invited, submitting, submitting_in}
-use Rattle.csp_ports.specs.PlainPorts.{PlainPorts, PlainStalled, anywhere, has_machine, machine_at, machine_in, machines_of, ports_of, stalled_at, start_of, state_at, terms_at, untouched, wishing, with_machine, with_machine_or, with_stalled, with_terms, is_closing}
-use Rattle.csp_ports.specs.Steps.{changed, closed_by, connected_by, dropped, dropped_of, freed, has_room, refused_by, replaced, settled, stepped, timed, timed_at, timed_in, went, where_machine}
+use Rattle.csp_ports.specs.PlainPorts.{PlainPorts, anywhere, has_machine, machine_at, machine_in, ports_of, stalled_at, start_of, state_at, terms_at, untouched, wishing, with_machine, with_machine_or, with_stalled, with_terms, is_closing}
+use Rattle.csp_ports.specs.Steps.{changed, closed_by, connected_by, dropped, dropped_in, freed, has_room, refused_by, replaced, settled, stepped, timed, timed_at, timed_in, went, where_machine}
 use Rattle.csp_ports.specs.Tasks.{delivered, kept_again, made_in, making, told_down, without_packet}
 use Rattle.csp_ports.specs.declared.handing.Invitation.{Invitation}
 use Rattle.csp_ports.specs.declared.flows.OwnFlows.{OwnFlows}
@@ -52,15 +52,15 @@ use Rattle.csp_rdp_window.specs.Receiving.{is_kept}
 use Rattle.csp_sizes.proofs.LightHolding.{data_light, held_light, unneeded_light}
 use Rattle.csp_sizes.proofs.LightMachines.{accepting_light, admitting_light, again_light, back_light, closing_light, connecting_light, delivering_light, handed_light, idle_light, rested_light, sent_light, taken_light, ticked_light}
 use Rattle.csp_sizes.proofs.LightSays.{says_short}
-use Rattle.csp_sizes.specs.Light.{ArePorts, IsData, IsLight, IsLightMachine}
+use Rattle.csp_sizes.specs.Light.{ArePorts, IsData, IsLight, IsLightMachine, IsLightSlot}
 
 -- what comes of a step of ports: they are light, and what they let go
 pub record Comes (c : Came) : Type 0 where
   pub ports : ArePorts c.ports
   pub loose : All IsLight c.loose
 
-abbrev IsWaiting : Option PlainStalled → Type 0
-IsWaiting o = IfSome o (λ s. IsData s.buffer.picture)
+abbrev IsWaiting : Option PlainBuffer → Type 0
+IsWaiting o = IfSome o (λ b. IsData b.picture)
 
 pub comes_come : (p : PlainPorts) → ArePorts p → Comes (come p)
 comes_come p h = record { ports = h; loose = All-nil IsLight }
@@ -70,35 +70,36 @@ comes_then c next h more =
     let d = more c.ports h.ports in
     record { ports = d.ports; loose = All-append IsLight c.loose (next c.ports).loose h.loose d.loose }
 
--- ---- machines in their places
+-- ---- slots in their places
+
+untouched_light : IsLightSlot untouched
+untouched_light = record { machine = idle_light; stalled = tt }
+
+slot_light : (p : PlainPorts) (s : Seat) → ArePorts p → IsLightSlot (state_at p s)
+slot_light p s h = all_or IsLightSlot p.slots (place_of s) untouched h untouched_light
 
 pub machine_light : (p : PlainPorts) (s : Seat) → ArePorts p → IsLightMachine (machine_at p s)
-machine_light p s h = subst IsLightMachine (sym (machine_listed p s)) (all_or IsLightMachine (machines_of p) (place_of s) idle h.machines idle_light)
+machine_light p s h = (slot_light p s h).machine
+
+-- another machine, other terms, or another packet that waits
 
 with_machine_or_light : (p : PlainPorts) (s : Seat) (o : Option PlainRdp) → IsLightMachine (unwrap_or o idle) → ArePorts p → ArePorts (with_machine_or p s o)
-with_machine_or_light p s o one h = record {
-  machines = subst (λ (rs : List PlainRdp). All IsLightMachine rs) (sym (machines_of_machine p s o)) (All-set IsLightMachine (machines_of p) (place_of s) (unwrap_or o idle) one h.machines);
-  stalled = h.stalled;
-}
+with_machine_or_light p s o one h = All-set IsLightSlot p.slots (place_of s) (record (state_at p s) { machine = o }) (record { machine = one; stalled = (slot_light p s h).stalled }) h
 
 pub with_machine_light : (p : PlainPorts) (s : Seat) (r : PlainRdp) → IsLightMachine r → ArePorts p → ArePorts (with_machine p s r)
 with_machine_light p s r one h = with_machine_or_light p s (Some r) one h
 
--- other terms of a slot leave the machines
 with_terms_light : (p : PlainPorts) (s : Seat) (t : Terms) → ArePorts p → ArePorts (with_terms p s t)
-with_terms_light p s t h = record { machines = subst (λ (rs : List PlainRdp). All IsLightMachine rs) (sym (machines_of_terms p s t)) h.machines; stalled = h.stalled }
+with_terms_light p s t h = All-set IsLightSlot p.slots (place_of s) (record (state_at p s) { terms = t }) (record { machine = machine_light p s h; stalled = (slot_light p s h).stalled }) h
+
+with_stalled_light : (p : PlainPorts) (s : Seat) (o : Option PlainBuffer) → IsWaiting o → ArePorts p → ArePorts (with_stalled p s o)
+with_stalled_light p s o one h = All-set IsLightSlot p.slots (place_of s) (record (state_at p s) { stalled = o }) (record { machine = machine_light p s h; stalled = one }) h
 
 wishing_light : (p : PlainPorts) (s : Seat) (w : Wish) → ArePorts p → ArePorts (wishing p s w)
 wishing_light p s w h = with_terms_light p s (record (terms_at p s) { wish = w }) h
 
 pub told_down_light : (s : Seat) (p : PlainPorts) → ArePorts p → ArePorts (told_down s p)
 told_down_light s p h = with_terms_light p s (record (terms_at p s) { is_down = false }) h
-
-stalled_light : (p : PlainPorts) (app : ℕ) → ArePorts p → IsWaiting (stalled_at p app)
-stalled_light p app h = all_or IsWaiting p.stalled app None h.stalled tt
-
-with_stalled_light : (p : PlainPorts) (app : ℕ) (o : Option PlainStalled) → IsWaiting o → ArePorts p → ArePorts (with_stalled p app o)
-with_stalled_light p app o one h = record { machines = h.machines; stalled = All-set IsWaiting p.stalled app o one h.stalled }
 
 -- ---- a machine makes a step
 
@@ -153,24 +154,21 @@ where_light false step p h c = comes_come p h
 
 -- ---- the packet that waits for room
 
-waiting_light : (p : PlainPorts) (app : ℕ) (s : PlainStalled) → stalled_at p app ≡ Some s → ArePorts p → IsData s.buffer.picture
-waiting_light p app s e h = subst IsWaiting e (stalled_light p app h)
+waiting_light : (p : PlainPorts) (s : Seat) (b : PlainBuffer) → stalled_at p s ≡ Some b → ArePorts p → IsData b.picture
+waiting_light p s b e h = subst IsWaiting e (slot_light p s h).stalled
 
 admitted_light : (time : ℕ) (s : Seat) (b : PlainBuffer) (p : PlainPorts) → IsData b.picture → ArePorts p → ArePorts (with_machine p s (admitting b time (machine_at p s)))
 admitted_light time s b p short h = with_machine_light p s _ (admitting_light b time (machine_at p s) short (machine_light p s h)) h
 
-settled_light : (time app : ℕ) (p : PlainPorts) → ArePorts p → ArePorts (settled time app p)
-settled_light time app p h = by_settled ArePorts time app p h (λ s e room. admitted_light time (seat app s.slot) s.buffer (with_stalled p app None) (waiting_light p app s e h) (with_stalled_light p app None tt h))
+settled_light : (time : ℕ) (s : Seat) (p : PlainPorts) → ArePorts p → ArePorts (settled time s p)
+settled_light time s p h = by_settled ArePorts time s p h (λ b e room. admitted_light time s b (with_stalled p s None) (waiting_light p s b e h) (with_stalled_light p s None tt h))
 
 -- it is discarded
-lost_light : (app : ℕ) (s : PlainStalled) (p : PlainPorts) → IsData s.buffer.picture → ArePorts p → Comes (discarding why.NoConn s.buffer.picture (with_stalled p app None))
-lost_light app s p short h = record {
-  ports = with_stalled_light p app None tt h;
-  loose = All-cons IsLight s.buffer.picture [] (data_light s.buffer.picture short) (All-nil IsLight);
-}
+lost_light : (s : Seat) (b : PlainBuffer) (p : PlainPorts) → IsData b.picture → ArePorts p → Comes (discarding why.NoConn b.picture (with_stalled p s None))
+lost_light s b p short h = record { ports = with_stalled_light p s None tt h; loose = All-cons IsLight b.picture [] (data_light b.picture short) (All-nil IsLight) }
 
-dropped_light : (app : ℕ) (p : PlainPorts) → ArePorts p → Comes (dropped app p)
-dropped_light app p h = by_dropped Comes app p (λ opens. comes_come p h) (λ s e shut. lost_light app s p (waiting_light p app s e h) h)
+dropped_light : (s : Seat) (p : PlainPorts) → ArePorts p → Comes (dropped s p)
+dropped_light s p h = by_dropped Comes s p (λ opens. comes_come p h) (λ b e shut. lost_light s b p (waiting_light p s b e h) h)
 
 -- ---- the timers
 
@@ -183,14 +181,14 @@ timed_in_light : (time : ℕ) (ks : List ℕ) (p : PlainPorts) → ArePorts p �
 timed_in_light time [] p h = comes_come p h
 timed_in_light time (k ∷ ks) p h = comes_then (timed_at time (seat_of k) p) (timed_in time ks) (timed_at_light time (seat_of k) p h) (λ q g. timed_in_light time ks q g)
 
-dropped_of_light : (apps : List ℕ) (p : PlainPorts) → ArePorts p → Comes (dropped_of apps p)
-dropped_of_light [] p h = comes_come p h
-dropped_of_light (app ∷ apps) p h = comes_then (dropped app p) (dropped_of apps) (dropped_light app p h) (λ q g. dropped_of_light apps q g)
+dropped_in_light : (ks : List ℕ) (p : PlainPorts) → ArePorts p → Comes (dropped_in ks p)
+dropped_in_light [] p h = comes_come p h
+dropped_in_light (k ∷ ks) p h = comes_then (dropped (seat_of k) p) (dropped_in ks) (dropped_light (seat_of k) p h) (λ q g. dropped_in_light ks q g)
 
 pub timed_light : (time : ℕ) (p : PlainPorts) → ArePorts p → Comes (timed time p)
 timed_light time p h =
-    comes_then (timed_in time (range_with_len 0 (p.conns.apps * SLOTS)) p) (λ q. dropped_of (range_with_len 0 q.conns.apps) q) (timed_in_light time (range_with_len 0 (p.conns.apps * SLOTS)) p h)
-    (λ q g. dropped_of_light (range_with_len 0 q.conns.apps) q g)
+    comes_then (timed_in time (range_with_len 0 (p.conns.apps * SLOTS)) p) (λ q. dropped_in (range_with_len 0 (q.conns.apps * SLOTS)) q) (timed_in_light time (range_with_len 0 (p.conns.apps * SLOTS)) p h)
+    (λ q g. dropped_in_light (range_with_len 0 (q.conns.apps * SLOTS)) q g)
 
 -- ---- packets
 
@@ -203,21 +201,21 @@ handing_light p s head b time light h =
     let r = machine_at p s in
     let y = row_of r head b.payload in
     let next = after_packet head b.trace.tag (anywhere b) time r in
-    let third : PlainPorts → Came = λ q. come (settled time s.app q) in
-    let second : PlainPorts → Came = λ q. (then) (dropped s.app q) third in
+    let third : PlainPorts → Came = λ q. come (settled time s q) in
+    let second : PlainPorts → Came = λ q. (then) (dropped s q) third in
     let step : PlainPorts → Came = went r.state machine_why.Reset s next in
     let first : PlainPorts → Came = λ q. (then) (where_machine (has_machine p s) step q) second in
     let c =
     comes_then (back_by (back_of y (anywhere b)) (is_stray y) p) first (back_came (back_of y (anywhere b)) (is_stray y) p (back_light y (anywhere b) light) h) (λ q g.
     comes_then (where_machine (has_machine p s) step q) second
     (where_light (has_machine p s) step q g (went_light r.state machine_why.Reset s next q (handed_light head b.trace.tag (anywhere b) time r light (machine_light p s h)) g)) (λ q g.
-    comes_then (dropped s.app q) third (dropped_light s.app q g) (λ q g.
-    comes_come (settled time s.app q) (settled_light time s.app q g)))) in
+    comes_then (dropped s q) third (dropped_light s q g) (λ q g.
+    comes_come (settled time s q) (settled_light time s q g)))) in
     record { ports = c.ports; loose = c.loose }
 
 admitting_by_light : (room : Bool) (p : PlainPorts) (s : Seat) (b : Content) (time : ℕ) → IsData b → ArePorts p → ArePorts (admitting_by room p s b time)
 admitting_by_light true p s b time short h = admitted_light time s (anywhere b) p short h
-admitting_by_light false p s b time short h = with_stalled_light p s.app (Some (record { slot = s.slot; buffer = anywhere b })) short h
+admitting_by_light false p s b time short h = with_stalled_light p s (Some (anywhere b)) short h
 
 lost_came : (p : PlainPorts) (b : Content) (c : Came) → IsData b → ArePorts p → c.ports ≡ p → c.loose ≡ b ∷ [] → Comes c
 lost_came p b c short h ports loose = record {
@@ -370,9 +368,9 @@ delivered_after time s p opened h =
     let g = without_packet_light s p h in
     let r = machine_at q s in
     let is = now_taken p s opened in
-    comes_then (went r.state machine_why.Reset s (delivering time r) q) (dropped s.app)
+    comes_then (went r.state machine_why.Reset s (delivering time r) q) (dropped s)
     (went_light r.state machine_why.Reset s (delivering time r) q (delivering_light time r is.is_open is.missing (machine_light q s g)) g)
-    (λ x k. dropped_light s.app x k)
+    (λ x k. dropped_light s x k)
 
 pub kept_after : (s : Seat) (b : Content) (p : PlainPorts) → (machine_at p s).state ≡ Open → IsLight b → ArePorts p → ArePorts (kept_again s b (without_packet s p))
 kept_after s b p opened light h =
@@ -383,4 +381,4 @@ kept_after s b p opened light h =
 
 -- at the opening
 pub ports_opened : (apps : ℕ) → ArePorts (ports_of apps)
-ports_opened apps = record { machines = All-replicate IsLightMachine ALL_SLOTS idle idle_light; stalled = All-replicate IsWaiting MAX_APPS None tt }
+ports_opened apps = All-replicate IsLightSlot ALL_SLOTS untouched untouched_light

@@ -36,7 +36,7 @@ use Rattle.csp_ports.proofs.Public.{all_or}
 use Rattle.csp_ports.specs.Asking.{close, connect, is_reliable}
 use Rattle.csp_ports.specs.Came.{Came}
 use Rattle.csp_ports.specs.Packets.{accepted, handing, invited, submitting}
-use Rattle.csp_ports.specs.PlainPorts.{machines_of, terms_at}
+use Rattle.csp_ports.specs.PlainPorts.{terms_at}
 use Rattle.csp_ports.specs.Tasks.{made_in, making}
 use Rattle.csp_ports.specs.declared.handing.Invitation.{Invitation}
 use Rattle.csp_ports.specs.declared.request.Request.{Request}
@@ -79,10 +79,10 @@ IsTold t = IsLightState t.state
 
 -- ---- parts of a state
 
-pub trashed : (s : State) (b : Content) → IsLight b → IsLightState s → IsHeld (machines_of s.ports) s.ports.stalled (s.trash ++ b ∷ []) s.out s.services.stats
+pub trashed : (s : State) (b : Content) → IsLight b → IsLightState s → IsHeld s.ports.slots (s.trash ++ b ∷ []) s.out s.services.stats
 trashed s b light h = record { ports = h.ports; trash = All-push IsLight s.trash b h.trash light; out = h.out; stats = h.stats }
 
-leaves : (s : State) (o : Leaving) → length o.buffer.payload ≤ room_of o.queue → IsLightState s → IsHeld (machines_of s.ports) s.ports.stalled s.trash (Some o) s.services.stats
+leaves : (s : State) (o : Leaving) → length o.buffer.payload ≤ room_of o.queue → IsLightState s → IsHeld s.ports.slots s.trash (Some o) s.services.stats
 leaves s o fits h = record { ports = h.ports; trash = h.trash; out = fits; stats = h.stats }
 
 pub ported_light : (s : State) (c : Came) → Comes c → IsLightState s → IsTold (ported s c)

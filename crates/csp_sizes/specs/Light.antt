@@ -21,7 +21,8 @@ use Rattle.csp_log.specs.declared.shown.AnswerShown.{AnswerShown}
 use Rattle.csp_log.specs.declared.shown.OpShown.TheVariants as op
 use Rattle.csp_log.specs.declared.shown.OpShown.{OpShown}
 use Rattle.csp_party.specs.Any.{PlainParty, a_bridge, a_hub, a_link, a_router, an_app, an_iface}
-use Rattle.csp_ports.specs.PlainPorts.{PlainPorts, PlainStalled, machines_of}
+use Rattle.csp_ports.specs.PlainPorts.{PlainPorts, machine_in}
+use Rattle.csp_ports.specs.declared.terms.SlotState.{SlotState}
 use Rattle.csp_rdp.specs.Balance.{IsWhole}
 use Rattle.csp_rdp.specs.Machine.{PlainRdp}
 use Rattle.csp_rdp_window.specs.Receiving.{Kept}
@@ -108,29 +109,29 @@ pub record IsLightMachine (r : PlainRdp) : Type 0 where
   pub whole : IsWhole r
   pub sized : IsSized r
 
--- the machines of a node and the packets that wait for room
-pub record AreHeld (rs : List PlainRdp) (waits : List (Option PlainStalled)) : Type 0 where
-  pub machines : All IsLightMachine rs
-  pub stalled : All (λ o. IfSome o (λ s. IsData s.buffer.picture)) waits
+-- what is kept of a slot: its machine, and the packet that waits for room there
+pub record IsLightSlot (s : SlotState) : Type 0 where
+  pub machine : IsLightMachine (machine_in s)
+  pub stalled : IfSome s.stalled (λ b. IsData b.picture)
 
--- so it is of a node's ports
+-- so it is of each slot of a node's ports
 abbrev pub ArePorts : PlainPorts → Type 0
-ArePorts p = AreHeld (machines_of p) p.stalled
+ArePorts p = All IsLightSlot p.slots
 
 -- as many counts as an interface has, at most
 abbrev pub IsFew : Stats → Type 0
 IsFew s = length s.counts ≤ 10
 
 -- what a router holds: its ports, its trash, the packet that is to go out; and the counts of its interfaces
-pub record IsHeld (rs : List PlainRdp) (waits : List (Option PlainStalled)) (spent : List Content) (leaving : Option Leaving) (counts : List Stats) : Type 0 where
-  pub ports : AreHeld rs waits
+pub record IsHeld (slots : List SlotState) (spent : List Content) (leaving : Option Leaving) (counts : List Stats) : Type 0 where
+  pub ports : All IsLightSlot slots
   pub trash : All IsLight spent
   pub out : IfSome leaving (λ o. length o.buffer.payload ≤ room_of o.queue)
   pub stats : All IsFew counts
 
 -- so it is of its state
 abbrev pub IsLightState : State → Type 0
-IsLightState s = IsHeld (machines_of s.ports) s.ports.stalled s.trash s.out s.services.stats
+IsLightState s = IsHeld s.ports.slots s.trash s.out s.services.stats
 
 -- the window of its connections is one that a connection may have, and its name is as long as a reply has room for
 pub record AreFacts (f : Facts) : Type 0 where

@@ -1,5 +1,5 @@
 -- the sources of work, and the look for one that has some
-use Rattle.std.specs.Prelude.{ℕ, ◌+◌, ◌-◌, ◌==◌, ◌&&◌, not, Bool, true, false, cond, nat_le, List, [], ◌∷◌, ◌++◌, Option, None, Some, find, is_some}
+use Rattle.std.specs.Prelude.{ℕ, ◌+◌, ◌-◌, ◌==◌, ◌&&◌, Bool, true, false, cond, nat_le, List, [], ◌∷◌, ◌++◌, Option, None, Some, find}
 use Rattle.std.specs.List.{range_with_len}
 use Rattle.csp_base.specs.declared.seat.Seat.{Seat}
 use Rattle.csp_ports.specs.PlainPorts.{stalls_of, waiting}

@@ -22,9 +22,8 @@ invariant_of-self c =
       owed = rw c.pop_front.ensures.rest (All-drop (IsOwed p.conns.apps) 1 p.owed.items a.owed);
       due = rw c.pop_front.ensures.rest (due_less ANSWERS p.owed.items (λ b. wishes b (terms_of (plain_ports p))) a.due);
       slots = a.slots;
-      housed = a.housed;
-      places = a.places;
-      waits = a.waits;
+      kept = a.kept;
+      alone = a.alone;
     }
 
 pub returns-in-Some-clause-comes : goal.returns-in-Some-clause-comes

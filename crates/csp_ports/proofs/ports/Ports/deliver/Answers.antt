@@ -70,7 +70,7 @@ returns-clause-comes c =
     let mid = ports_at (record p { slots = with_item p.slots c.place.result (record c.index_mut.result.now { machine = Some c.deliver-change.new.machine }) }) in
     let change = c.deliver-change.ensures.change ∙ ap (λ (q : PlainRdp). change_between q.state (delivering c.args.now q).state machine_why.Reset) seen in
     then_comes at c.change.new.self c.drop_stalled.new.self c.args.trash.now c.change.new.trash c.drop_stalled.new.trash events c.change.new.report.items c.drop_stalled.new.report.items
-    (went r.state machine_why.Reset seat (delivering c.args.now r) at.ports) (dropped seat.app)
+    (went r.state machine_why.Reset seat (delivering c.args.now r) at.ports) (dropped seat)
     (then_comes at mid c.change.new.self c.args.trash.now c.deliver-change.new.trash c.change.new.trash events events c.change.new.report.items
     (stepped seat (delivering c.args.now r) at.ports) (changed (change_between r.state (delivering c.args.now r).state machine_why.Reset) seat)
     (record {
@@ -87,4 +87,4 @@ returns-clause-keeps c =
     let whole = whole_seen c.self.inside c.args.self.now c.self.view_is c.self.invariant in
     let few = there_few p c.args.seat whole c.requires.there in
     keeps_of 1 c.args.self.now c.drop_stalled.new.self c.args.trash.now c.drop_stalled.new.trash c.args.report.now.items c.drop_stalled.new.report.items (delivered c.args.now c.args.seat p) []
-    (returns-clause-comes c) (flows_delivered p c.args.now c.args.seat few.0 few.1 whole c.requires.open c.requires.taken)
+    (returns-clause-comes c) (flows_delivered p c.args.now c.args.seat few whole c.requires.open c.requires.taken)

@@ -3,8 +3,5 @@ use Rattle.csp_ports.specs.Held.{held}
 use Rattle.csp_ports.proofs.Holding.{nothing-held}
 use Rattle.csp_ports.proofs.ports.Ports.end.Goals as goal
 
-pub end_all_stalled-requires : goal.end_all_stalled-requires
-end_all_stalled-requires c = (nothing-held c.self.inside.stalled c.self.inside.slots.items (ap (λ p. held p.ports) c.self.view_is ∙ c.requires)).0
-
 pub end_slots-requires : goal.end_slots-requires
-end_slots-requires c = (nothing-held c.self.inside.stalled c.self.inside.slots.items (ap (λ p. held p.ports) c.self.view_is ∙ c.requires)).1
+end_slots-requires c = nothing-held c.self.inside.slots.items (ap (λ p. held p.ports) c.self.view_is ∙ c.requires)

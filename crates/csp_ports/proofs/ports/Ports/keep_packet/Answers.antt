@@ -45,4 +45,4 @@ returns-clause-keeps c =
     let whole = whole_seen c.self.inside c.args.self.now c.self.view_is c.self.invariant in
     let few = there_few p c.args.seat whole c.requires.there in
     subst (λ (x : PortsAt). Keeps 0 (at_hand p []) (at_hand x.ports []) (c.args.packet.picture.number ∷ [])) (sym (returns-clause-ports c))
-    (keeps_again p c.args.seat c.args.packet.picture few.1 whole c.requires.open c.requires.taken)
+    (keeps_again p c.args.seat c.args.packet.picture few whole c.requires.open c.requires.taken)

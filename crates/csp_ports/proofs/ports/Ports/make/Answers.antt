@@ -52,4 +52,4 @@ returns-clause-keeps c =
     let p = c.args.self.now.ports in
     let whole = whole_seen c.self.inside c.args.self.now c.self.view_is c.self.invariant in
     let few = there_few p c.args.seat whole c.requires.there in
-    subst (λ (x : PortsAt). Keeps 0 (at_hand p []) (at_hand x.ports []) []) (sym (returns-clause-ports c)) (keeps_made c.args.job p c.args.now c.args.seat few.1 whole)
+    subst (λ (x : PortsAt). Keeps 0 (at_hand p []) (at_hand x.ports []) []) (sym (returns-clause-ports c)) (keeps_made c.args.job p c.args.now c.args.seat few whole)

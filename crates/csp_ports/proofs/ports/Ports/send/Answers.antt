@@ -4,7 +4,7 @@ use Rattle.csp_buffer.specs.PlainBuffer.{PlainBuffer}
 use Rattle.csp_conn.specs.PlainConns.{IsThere}
 use Rattle.csp_ports.proofs.Counting.{far_machine_at}
 use Rattle.csp_ports.proofs.Tasking.{admit_back, admitted_later, admitted_now}
-use Rattle.csp_ports.specs.PlainPorts.{PortsAt, machine_at, stalled_at}
+use Rattle.csp_ports.specs.PlainPorts.{PortsAt, machine_at, stalls_of}
 use Rattle.csp_ports.specs.Steps.{has_room}
 use Rattle.csp_ports.proofs.ports.Ports.send.Goals as goal
 
@@ -29,7 +29,7 @@ stall-requires-clause-short c =
 pub stall-requires-clause-none : goal.stall-requires-clause-none
 stall-requires-clause-none c =
     let back = admit_back (has_room (machine_at c.args.self.now.ports c.args.seat)) c.admit.result c.in-Err.buffer c.args.self.now c.admit.new.self c.args.seat c.args.packet c.args.now c.in-Err.is c.admit.ensures in
-    ap (λ (x : PortsAt). stalled_at x.ports c.args.seat.app) back.1 ∙ c.requires.first
+    ap (λ (x : PortsAt). stalls_of c.args.seat.app x.ports.slots) back.1 ∙ c.requires.first
 
 pub returns-in-Err-clause-ports : goal.returns-in-Err-clause-ports
 returns-in-Err-clause-ports c =

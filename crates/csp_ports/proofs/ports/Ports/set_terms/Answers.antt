@@ -4,7 +4,7 @@ use Rattle.csp_ports.specs.Counts.{AreFar}
 use Rattle.std.proofs.Common.{◌≡◌, ◌+◌, ◌≤◌, ◌<◌, length, arith, ap, subst, sym, ◌∙◌}
 use Rattle.csp_ports.proofs.Keeping.{seen_terms, terms_kept, terms_set}
 use Rattle.csp_ports.proofs.Slots.{held_terms, terms_listed, terms_of_terms}
-use Rattle.csp_ports.proofs.Wishing.{wishes_at}
+use Rattle.csp_ports.proofs.Wishing.{weighs_at}
 use Rattle.csp_ports.specs.Held.{held}
 use Rattle.csp_ports.specs.Kept.{plain_ports, wished, wishes}
 use Rattle.csp_ports.specs.PlainPorts.{PortsAt, fresh, terms_at, terms_of, waiting, with_ports_at, with_terms}
@@ -29,7 +29,7 @@ returns-clause-wishes c =
     let p = plain_ports c.self.inside in
     let there : place_of seat < length (terms_of p) = omega (arith, c.place.ensures.inside, c.place.ensures.value, c.self.invariant.slots, seen_terms c.self.inside) in
     let old = subst (λ (t : Terms). wishes app (terms_of (with_terms p seat c.args.terms)) + wished t.wish ≡ wishes app (terms_of p) + wished c.args.terms.wish) (sym (terms_listed p seat))
-    (rw (terms_of_terms p seat c.args.terms) (wishes_at seat (terms_of p) c.args.terms fresh c.requires.there.of_app there)) in
+    (rw (terms_of_terms p seat c.args.terms) (weighs_at (λ t. wished t.wish) seat (terms_of p) c.args.terms fresh c.requires.there.of_app there)) in
     subst (λ (x : PortsAt). wishes app (terms_of x.ports) + wished (terms_at c.args.self.now.ports seat).wish ≡ wishes app (terms_of c.args.self.now.ports) + wished c.args.terms.wish) (sym (returns-clause-ports c))
     (subst (λ (x : PortsAt). wishes app (terms_of (with_terms x.ports seat c.args.terms)) + wished (terms_at x.ports seat).wish ≡ wishes app (terms_of x.ports) + wished c.args.terms.wish) c.self.view_is old)
 

@@ -7,6 +7,7 @@ use Rattle.csp_ports.specs.PlainPorts.{PortsAt, machine_at}
 use Rattle.csp_ports.specs.Steps.{has_room}
 use Rattle.csp_ports.proofs.Flowing.{keeps_of}
 use Rattle.csp_ports.proofs.Serving.{flows_submitted}
+use Rattle.csp_ports.proofs.Stalling.{none_stalled}
 use Rattle.csp_ports.proofs.Wholes.{there_few}
 use Rattle.csp_ports.proofs.ports.Ports.submit.Goals as goal
 
@@ -26,4 +27,4 @@ returns-in-Open-clause-keeps c =
     let p = c.args.self.now.ports in
     let few = there_few p c.args.seat c.whole.ensures c.requires.there in
     keeps_of 1 c.args.self.now c.send.new.self c.args.trash.now c.args.trash.now c.args.report.now.items c.send.new.report.items (submitting p c.args.seat c.args.packet.picture c.args.now) (c.args.packet.picture.number ∷ [])
-    (returns-in-Open-clause-comes c) (flows_submitted (machine_at p c.args.seat).state p c.args.seat c.args.packet.picture c.args.now few.0 c.requires.there.of_app c.whole.ensures c.requires.first)
+    (returns-in-Open-clause-comes c) (flows_submitted (machine_at p c.args.seat).state p c.args.seat c.args.packet.picture c.args.now few c.whole.ensures (none_stalled p c.args.seat c.requires.there.of_app c.requires.first))

@@ -71,7 +71,7 @@ returns-clause-open c =
     let p = c.args.self.now.ports in
     let whole = whole_seen c.self.inside c.args.self.now c.self.view_is c.self.invariant in
     let few = there_few p c.args.seat whole c.requires.there in
-    ap (λ (x : PortsAt). (machine_at x.ports c.args.seat).state) (returns-clause-ports c) ∙ (now_taken p c.args.seat few.1 whole c.requires.owed.0).0
+    ap (λ (x : PortsAt). (machine_at x.ports c.args.seat).state) (returns-clause-ports c) ∙ (now_taken p c.args.seat few whole c.requires.owed.0).0
 
 pub returns-clause-taken : goal.returns-clause-taken
 returns-clause-taken c =
@@ -79,7 +79,7 @@ returns-clause-taken c =
     let whole = whole_seen c.self.inside c.args.self.now c.self.view_is c.self.invariant in
     let few = there_few p c.args.seat whole c.requires.there in
     ap (λ (x : PortsAt). is_kept (machine_at x.ports c.args.seat).recv ((machine_at x.ports c.args.seat).recv.cur + 1)) (returns-clause-ports c)
-    ∙ (now_taken p c.args.seat few.1 whole c.requires.owed.0).1
+    ∙ (now_taken p c.args.seat few whole c.requires.owed.0).1
 
 pub returns-clause-keeps : goal.returns-clause-keeps
 returns-clause-keeps c =
@@ -87,4 +87,4 @@ returns-clause-keeps c =
     let whole = whole_seen c.self.inside c.args.self.now c.self.view_is c.self.invariant in
     let few = there_few p c.args.seat whole c.requires.there in
     subst (λ (x : PortsAt). Keeps 0 (at_hand p []) (at_hand x.ports (c.in-Some-deliver.packet.picture ∷ [])) []) (sym (returns-clause-ports c))
-    (keeps_taken p c.args.seat c.in-Some-deliver.packet.picture few.1 whole (returns-clause-packet c))
+    (keeps_taken p c.args.seat c.in-Some-deliver.packet.picture few whole (returns-clause-packet c))
