@@ -58,7 +58,7 @@ use Rattle.csp_stack.specs.Config.{opening_state}
 use Rattle.csp_stack.specs.Counting.{came_in, counting, was_full}
 use Rattle.csp_stack.specs.Readings.{is_checked, is_here, is_pushed, is_secured, item_in, buffer_in}
 use Rattle.csp_stack.specs.Router.{Facts, Leaving, State, at_rest, flows_of, router}
-use Rattle.csp_stack.specs.Rules.{◌>>=◌, Arrival, Decided, Left, Ruling, accepting, addressed, answer_flags, at_connection, by_answer, by_connection, by_mark, by_row, by_service, by_slot, by_socket, connection_of, for_this_node, forwarded, heard, invitation_of, inviting, is_lacking, is_mixed, made_on, not_reliable, not_secured, of_no_connection, on_connection, opening, owner_for, packet_in, requested, sent, sent_where, served, to_connection, to_machine, to_no_socket, to_slot, with_payload, without_checksum, sent_on}
+use Rattle.csp_stack.specs.Rules.{◌>>=◌, Arrival, Decided, Left, Ruling, accepting, addressed, answer_flags, at_connection, by_answer, by_connection, by_row, by_service, by_slot, by_socket, connection_of, for_this_node, forwarded, heard, invitation_of, inviting, is_lacking, is_mixed, made_on, not_reliable, not_secured, of_no_connection, on_connection, opening, owner_for, packet_in, requested, sent, sent_where, served, to_connection, to_machine, to_no_socket, to_slot, with_payload, without_checksum, sent_on}
 use Rattle.csp_stack.specs.Serving.{facts_of, reply_in, with_facts}
 use Rattle.csp_stack.specs.Sources.{place_with_work, source_at}
 use Rattle.csp_stack.specs.Told.{Told, discarded, kept, leaving, ported, unchanged, with_ports}
@@ -197,7 +197,7 @@ by_slot_so has.Free f s seat time b = stays s.ports
 by_slot_so has.Held f s seat time b = stays s.ports
 by_slot_so (has.Open c) f s seat time b = on_connection_so c f s seat time b
 
-by_mark_so : (unmarked : Bool) (f : Facts) (s : State) (seat : Seat) (time : ℕ) (b : Content) → Quiet s (by_mark unmarked (router f s) seat time b)
+by_mark_so : (unmarked : Bool) (f : Facts) (s : State) (seat : Seat) (time : ℕ) (b : Content) → Quiet s (if unmarked then sent f s b else by_slot (slot_at s.ports.conns seat) (router f s) seat time b)
 by_mark_so true f s seat time b = sends f s b
 by_mark_so false f s seat time b = by_slot_so (slot_at s.ports.conns seat) f s seat time b
 
@@ -223,7 +223,7 @@ requests (note.Down slot) f s a app time h = absurd h
 serves : (i : ItemShown) (f : Facts) (s : State) (a app time : ℕ) → IsUpItem i
     → due a (served f s time app i).state.ports ≤ due a s.ports + asked_of (app == a) i
 serves (item.Packet mark b) f s a app time up =
-    quiet_served f s (by_mark (mark == UNMARKED) (router f s) (seat app mark) time b) a app (item.Packet mark b) (by_mark_so (mark == UNMARKED) f s (seat app mark) time b)
+    quiet_served f s (if mark == UNMARKED then sent f s b else by_slot (slot_at s.ports.conns (seat app mark)) (router f s) (seat app mark) time b) a app (item.Packet mark b) (by_mark_so (mark == UNMARKED) f s (seat app mark) time b)
 serves (item.Note n) f s a app time up = requests n f s a app time up
 serves (item.Frame frame) f s a app time up = absurd up
 

@@ -50,7 +50,8 @@ use Rattle.csp_record.specs.declared.payloads.Transfer.TheVariants as way
 use Rattle.csp_record.proofs.Public.{Ends}
 use Rattle.csp_stack.specs.Config.{opening_state}
 use Rattle.csp_stack.specs.Router.{Facts, Leaving, State, at_rest, flows_of, router}
-use Rattle.csp_stack.specs.Rules.{by_mark, by_slot, sent_on, served}
+use Rattle.csp_stack.specs.Rules as rules
+use Rattle.csp_stack.specs.Rules.{by_slot, sent_on, served}
 use Rattle.csp_stack.specs.Told.{ported}
 use Rattle.csp_stack.specs.Turn.{asked_at, until_answer, delivering, giving, plan_of, pushing, replying, timed, told_at, turn_of}
 use Rattle.csp_stack.specs.declared.plan.Plan.{Plan}
@@ -311,7 +312,7 @@ module _ (f : Facts) (seat : Seat) (ordinal nth : ℕ) (peer : Option (ℕ × �
   served_sends : (s : State) (time : ℕ) (b : Content) (c : Connection) → seat.slot < SLOTS → slot_at s.ports.conns seat ≡ has.Open c → is_reliable (terms_at s.ports seat).flags ≡ true → (machine_at s.ports seat).state ≡ state.Open
       → (served f s time seat.app (item.Packet seat.slot b)).events ≡ event.Sent seat.slot (terms_at s.ports seat).ordinal ∷ []
   served_sends s time b c low there reliable is_open =
-      ap (λ u. (by_mark u (router f s) seat time b).events) (not_unmarked low) ∙ ap (λ o. (by_slot o (router f s) seat time b).events) there
+      ap (λ u. (if u then rules.sent f s b else by_slot (slot_at s.ports.conns seat) (router f s) seat time b).events) (not_unmarked low) ∙ ap (λ o. (by_slot o (router f s) seat time b).events) there
       ∙ ap (λ r. (if r then ported s (submitting s.ports seat b time) else sent_on c (router f s) seat b).events) reliable
       ∙ ap (λ m. (submitting_in m s.ports seat b time).events) is_open
 

@@ -251,7 +251,7 @@ go_slot slot.Free f s seat time b h = h
 go_slot slot.Held f s seat time b h = h
 go_slot (slot.Open c) f s seat time b h = go_on_connection c f s seat time b h
 
-go_mark : (unmarked : Bool) (f : Facts) (s : State) (seat : Seat) (time : ℕ) (b : Content) → IsHome f s → Goes f (rules.by_mark unmarked (router f s) seat time b)
+go_mark : (unmarked : Bool) (f : Facts) (s : State) (seat : Seat) (time : ℕ) (b : Content) → IsHome f s → Goes f (if unmarked then rules.sent f s b else rules.by_slot (slot_at s.ports.conns seat) (router f s) seat time b)
 go_mark true f s seat time b h = go_sent f s b h
 go_mark false f s seat time b h = go_slot (slot_at s.ports.conns seat) f s seat time b h
 

@@ -53,7 +53,7 @@ use Rattle.csp_stack.specs.Comes.{heard_at_socket, heard_elsewhere, heard_at_por
 use Rattle.csp_stack.specs.Counting.{counting}
 use Rattle.csp_stack.specs.Readings.{is_checked, is_here, is_secured}
 use Rattle.csp_stack.specs.Router.{Facts, Leaving, State, flows_of, holds, router}
-use Rattle.csp_stack.specs.Rules.{◌>>=◌, Arrival, Decided, Left, accepting, addressed, answer_flags, arrival, by_answer, by_connection, by_mark, by_row, by_service, by_slot, by_socket, connection_of, forwarded, heard, invitation_of, inviting, is_lacking, is_mixed, opening, requested, sent, sent_where, sent_on, seat_for, served, to_connection, to_itself, to_machine, to_slot, with_payload}
+use Rattle.csp_stack.specs.Rules.{◌>>=◌, Arrival, Decided, Left, accepting, addressed, answer_flags, arrival, by_answer, by_connection, by_row, by_service, by_slot, by_socket, connection_of, forwarded, heard, invitation_of, inviting, is_lacking, is_mixed, opening, requested, sent, sent_where, sent_on, seat_for, served, to_connection, to_itself, to_machine, to_slot, with_payload}
 use Rattle.csp_stack.specs.Serving.{facts_of, reply_header, reply_in, with_facts}
 use Rattle.csp_stack.specs.Told.{Told, absorbed, discarded, kept, leaving, ported, spent, unchanged, with_ports}
 use Rattle.csp_conserved.proofs.RouterPorts.{flows_handing, found_low, still_whole, terms_whole}
@@ -241,7 +241,7 @@ by_slot_adds has.Held f s seat time b few low free empty w = adds_discarded s wh
 by_slot_adds (has.Open c) f s seat time b few low free empty w = on_connection_adds (is_reliable (terms_at s.ports seat).flags) c f s seat time b few low free empty w
 
 by_mark_adds : (unmarked : Bool) (f : Facts) (s : State) (seat : Seat) (time : ℕ) (b : Content) → (seat.slot == UNMARKED) ≡ unmarked → seat.app < 4 → IsUpItem (item.Packet seat.slot b) → stalls_of seat.app s.ports.slots ≡ 0 → s.out ≡ None → AreWhole s.ports
-    → Adds s (by_mark unmarked (router f s) seat time b).state (b.number ∷ [])
+    → Adds s (if unmarked then sent f s b else by_slot (slot_at s.ports.conns seat) (router f s) seat time b).state (b.number ∷ [])
 by_mark_adds true f s seat time b e few up free empty w = sent_adds f s b b.number refl empty w
 by_mark_adds false f s seat time b e few up free empty w =
     let marked : seat.slot ≢ UNMARKED = λ is. absurd (let same : (seat.slot == UNMARKED) ≡ true = eq-eqb seat.slot UNMARKED is in cc) in

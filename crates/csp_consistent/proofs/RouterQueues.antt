@@ -157,7 +157,7 @@ go_slot slot.Free r seat time b h = h
 go_slot slot.Held r seat time b h = h
 go_slot (slot.Open c) r seat time b h = go_either (is_reliable (terms_at r.state.ports seat).flags) _ (rules.sent_on c r seat b) h (go_sent _ _ r.state _ h)
 
-go_mark : (unmarked : Bool) (r : Router) (seat : Seat) (time : ℕ) (b : Content) → IsOutward r.state.out → Goes (rules.by_mark unmarked r seat time b)
+go_mark : (unmarked : Bool) (r : Router) (seat : Seat) (time : ℕ) (b : Content) → IsOutward r.state.out → Goes (if unmarked then rules.sent r.facts r.state b else rules.by_slot (slot_at r.state.ports.conns seat) r seat time b)
 go_mark true r seat time b h = go_sent _ _ r.state b h
 go_mark false r seat time b h = go_slot (slot_at r.state.ports.conns seat) r seat time b h
 

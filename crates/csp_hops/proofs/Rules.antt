@@ -162,7 +162,7 @@ go_slot slot.Free r seat time b h = h
 go_slot slot.Held r seat time b h = h
 go_slot (slot.Open c) r seat time b h = either (is_reliable (terms_at r.state.ports seat).flags) _ _ h (sent_marks r.facts r.state (rules.addressed r.facts c (terms_at r.state.ports seat) b) h)
 
-go_mark : (unmarked : Bool) (r : Router) (seat : Seat) (time : ℕ) (b : Content) → IsMarking r.state → IsTold (rules.by_mark unmarked r seat time b)
+go_mark : (unmarked : Bool) (r : Router) (seat : Seat) (time : ℕ) (b : Content) → IsMarking r.state → IsTold (if unmarked then rules.sent r.facts r.state b else rules.by_slot (slot_at r.state.ports.conns seat) r seat time b)
 go_mark true r seat time b h = sent_marks r.facts r.state b h
 go_mark false r seat time b h = go_slot (slot_at r.state.ports.conns seat) r seat time b h
 

@@ -45,7 +45,7 @@ use Rattle.csp_socket.specs.Bound.{owner_of}
 use Rattle.csp_socket.specs.declared.sockets.TheConstants.{BINDABLE_PORTS}
 use Rattle.csp_stack.specs.Readings.{is_checked}
 use Rattle.csp_stack.specs.Router.{Facts, State, flows_of, router}
-use Rattle.csp_stack.specs.Rules.{addressed, by_mark, by_slot, header_for, requested, sent, sent_where, sent_on, served}
+use Rattle.csp_stack.specs.Rules.{addressed, by_slot, header_for, requested, sent, sent_where, sent_on, served}
 use Rattle.csp_stack.specs.Told.{Told, discarded, ported}
 use Rattle.csp_prefix.specs.Ports.{AreGood, Books, IsInUse, IsSlot, Submits, is_same, now_at, with_sent}
 use Rattle.csp_prefix.specs.Routers.{IsUntraced}
@@ -187,7 +187,7 @@ module _ (g : Aim) (f : Facts) (whole : Past) (k : IsAim g f whole) where
   by_slot_so (has.Open c) h s seat time b there few low free empty untraced w = by_connection_so (is_reliable (terms_at s.ports seat).flags) c h s seat time b there refl few low free empty untraced w
 
   by_mark_so : (unmarked : Bool) (h : Past) (s : State) (app mark time : ℕ) (b : Content) → (mark == UNMARKED) ≡ unmarked → app < s.ports.conns.apps → IsUpItem (item.Packet mark b) → stalls_of app s.ports.slots ≡ 0 → s.out ≡ None
-      → IsUntraced (item.Packet mark b) → g.comes (item.Packet mark b) → Stands g f h s.ports s.out → Serves h app (item.Packet mark b) (by_mark unmarked (router f s) (seat app mark) time b)
+      → IsUntraced (item.Packet mark b) → g.comes (item.Packet mark b) → Stands g f h s.ports s.out → Serves h app (item.Packet mark b) (if unmarked then sent f s b else by_slot (slot_at s.ports.conns (seat app mark)) (router f s) (seat app mark) time b)
   by_mark_so true h s app mark time b e few up free empty untraced comes w =
       let good = k.unmarked mark b e (ap (λ x. x.tag) untraced) comes in
       let off = sent_off ((header_at b.header).dst == f.addr) (route_of s.routes (header_at b.header).dst) s b empty good in

@@ -76,7 +76,7 @@ use Rattle.csp_stack.specs.Comes.{heard_at_port, heard_at_socket, heard_elsewher
 use Rattle.csp_stack.specs.Counting.{came_in, counting, was_full}
 use Rattle.csp_stack.specs.Readings.{buffer_in, is_checked, is_here, is_pushed, is_secured, item_in}
 use Rattle.csp_stack.specs.Router.{Facts, Router, State, at_rest, flows_of, router}
-use Rattle.csp_stack.specs.Rules.{Arrival, Decided, Left, accepting, addressed, arrival, by_answer, by_connection, by_mark, by_row, by_service, by_slot, by_socket, connection_of, differs, forwarded, heard, invitation_of, inviting, is_lacking, is_mixed, made_on, opening, owner_for, packet_in, requested, seat_for, sent, sent_where, sent_on, served, to_connection, to_machine, to_slot, with_payload, ◌>>=◌}
+use Rattle.csp_stack.specs.Rules.{Arrival, Decided, Left, accepting, addressed, arrival, by_answer, by_connection, by_row, by_service, by_slot, by_socket, connection_of, differs, forwarded, heard, invitation_of, inviting, is_lacking, is_mixed, made_on, opening, owner_for, packet_in, requested, seat_for, sent, sent_where, sent_on, served, to_connection, to_machine, to_slot, with_payload, ◌>>=◌}
 use Rattle.csp_stack.specs.Serving.{facts_of, reply_in, with_facts}
 use Rattle.csp_stack.specs.Told.{Told, discarded, kept, leaving, ported, unchanged, with_ports}
 use Rattle.csp_stack.specs.Turn.{asked_at, until_answer, asks_at, brought, no_room, plan_of, timed, told_at, turn_of}
@@ -274,7 +274,7 @@ module _ (P : Event → Type 0) (lost : (reason : Discard) → P (event.Discarde
   by_slot_so has.Held f s seat time b sends = (lost why.NoConn, tt)
   by_slot_so (has.Open c) f s seat time b sends = on_connection_so (is_reliable (terms_at s.ports seat).flags) c f s seat time b sends
 
-  by_mark_so : (unmarked : Bool) (f : Facts) (s : State) (seat : Seat) (time : ℕ) (b : Content) → ((ordinal : ℕ) → P (event.Sent seat.slot ordinal)) → Each (by_mark unmarked (router f s) seat time b).events
+  by_mark_so : (unmarked : Bool) (f : Facts) (s : State) (seat : Seat) (time : ℕ) (b : Content) → ((ordinal : ℕ) → P (event.Sent seat.slot ordinal)) → Each (if unmarked then sent f s b else by_slot (slot_at s.ports.conns seat) (router f s) seat time b).events
   by_mark_so true f s seat time b sends = sent_so f s b
   by_mark_so false f s seat time b sends = by_slot_so (slot_at s.ports.conns seat) f s seat time b sends
 

@@ -333,7 +333,7 @@ go_slot slot.Free f s seat time b data' h = trashed s b (omega (arith, data')) h
 go_slot slot.Held f s seat time b data' h = trashed s b (omega (arith, data')) h
 go_slot (slot.Open c) f s seat time b data' h = go_on_connection c f s seat time b data' h
 
-go_mark : (unmarked : Bool) (f : Facts) (s : State) (seat : Seat) (time : ℕ) (b : Content) → IsData b → IsLightState s → IsTold (rules.by_mark unmarked (router f s) seat time b)
+go_mark : (unmarked : Bool) (f : Facts) (s : State) (seat : Seat) (time : ℕ) (b : Content) → IsData b → IsLightState s → IsTold (if unmarked then rules.sent f s b else rules.by_slot (slot_at s.ports.conns seat) (router f s) seat time b)
 go_mark true f s seat time b data' h = sent_light f s b (omega (arith, data')) h
 go_mark false f s seat time b data' h = go_slot (slot_at s.ports.conns seat) f s seat time b data' h
 

@@ -291,11 +291,6 @@ by_slot slot.Free r seat time b = discarded r.state why.NoConn b
 by_slot slot.Held r seat time b = discarded r.state why.NoConn b
 by_slot (slot.Open c) r seat time b = on_connection c r seat time b
 
--- an unmarked packet is sent as it is, and one for a slot by its connection
-abbrev pub by_mark : (is_unmarked : Bool) → Router → Seat → (time : ℕ) → Content → Told
-by_mark true r seat time b = sent r.facts r.state b
-by_mark false r seat time b = by_slot (slot_at r.state.ports.conns seat) r seat time b
-
 -- a request is answered; the router's own answers are no requests
 abbrev pub requested : Facts → State → ℕ → ℕ → Note → Told
 requested f s app time (note.Bind port need) = unchanged (with_ports s (bind s.ports app port need))
@@ -309,9 +304,10 @@ requested f s app time (note.Refused reason) = unchanged s
 requested f s app time (note.Closed slot) = unchanged s
 requested f s app time (note.Down slot) = unchanged s
 
--- what becomes of an item of an application; a frame is none of what an application sends
+-- what becomes of an item of an application: an unmarked packet is sent as it is, and one for a slot by its connection; a frame is none of what
+-- an application sends
 abbrev pub served : Facts → State → ℕ → (app : ℕ) → ItemShown → Told
-served f s time app (item.Packet mark b) = by_mark (mark == UNMARKED) (router f s) (seat app mark) time b
+served f s time app (item.Packet mark b) = if mark == UNMARKED then sent f s b else by_slot (slot_at s.ports.conns (seat app mark)) (router f s) (seat app mark) time b
 served f s time app (item.Note request) = requested f s app time request
 served f s time app (item.Frame _) = unchanged s
 

@@ -13,7 +13,7 @@ ghost use Rattle.csp_stack.specs.Comes.{ComesTo, IsServing};
 ghost use Rattle.csp_stack.specs.Keeps.{Keeps};
 ghost use Rattle.csp_stack.specs.Party.{IsFrom, IsSendable};
 ghost use Rattle.csp_stack.specs.Router.{router};
-ghost use Rattle.csp_stack.specs.Rules.{by_mark, by_slot, on_connection, requested, served};
+ghost use Rattle.csp_stack.specs.Rules.{by_slot, on_connection, requested, served};
 ghost use Rattle.csp_stack.specs.Told.{unchanged, with_ports};
 
 use crate::facts::Facts;
@@ -42,8 +42,7 @@ pub fn serve(facts: &Facts, state: &mut State, now: u64, app: u8, item: Item, re
 {
     match item {
         Item::Packet { mark, buffer } => {
-            let seat = Seat { app, slot: mark };
-            serve_packet(facts, state, now, seat, buffer, report);
+            serve_packet(facts, state, now, app, mark, buffer, report);
         }
         Item::Note(note) => request(facts, state, now, app, note, report),
         Item::Frame(_) => {}
@@ -55,23 +54,25 @@ fn serve_packet(
     facts: &Facts,
     state: &mut State,
     now: u64,
-    seat: Seat,
+    app: u8,
+    mark: u8,
     buffer: Buffer,
     report: &mut Events,
 )
     requires sound { IsServing facts.now state.old.state }
     requires unwritten { report.old.items ≡ [] }
     requires of_it { buffer.region ≡ state.old.region }
-    requires from { IsFrom facts.now seat.app (ItemShown.Packet seat.slot buffer.picture) }
-    requires alone { stalls_of seat.app state.old.state.ports.slots ≡ 0 }
+    requires from { IsFrom facts.now app (ItemShown.Packet mark buffer.picture) }
+    requires alone { stalls_of app state.old.state.ports.slots ≡ 0 }
     requires countable { IsCountable state.old.state.ports }
-    ensures told { ComesTo state.old state.new report.old.items report.new.items (by_mark (seat.slot == UNMARKED) (router facts.now state.old.state) seat now buffer.picture) }
+    ensures told { ComesTo state.old state.new report.old.items report.new.items (served facts.now state.old.state now app (ItemShown.Packet mark buffer.picture)) }
     ensures sendable { IsSendable facts.now state.new.state.out }
     ensures keeps { Keeps (length facts.now.ifaces) state.old.state state.new.state (buffer.picture.number ∷ []) }
 {
-    if seat.slot == UNMARKED {
+    if mark == UNMARKED {
         send(facts, state, buffer, report);
     } else {
+        let seat = Seat { app, slot: mark };
         serve_slot(facts, state, now, seat, buffer, report);
     }
 }
