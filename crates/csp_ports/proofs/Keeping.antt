@@ -8,7 +8,7 @@ use Rattle.std.proofs.lemmas.List.Elements.{All-get_or, All-set}
 use Rattle.csp_base.specs.declared.seat.Seat.{Seat}
 use Rattle.csp_buffer.specs.PlainBuffer.{PlainBuffer}
 use Rattle.csp_conn.specs.PlainConns.{place_of}
-use Rattle.csp_ports.proofs.Stalling.{alone_after, one_in, stalls_same}
+use Rattle.csp_ports.proofs.Stalling.{alone_after, none_in, one_in, stalls_at, stalls_of_map, stalls_same}
 use Rattle.csp_ports.proofs.Wishing.{weighs_after}
 use Rattle.csp_deck.specs.Regions.{nowhere}
 use Rattle.csp_ports.specs.Kept.{ArePorts, IsHoused, IsKept, IsWaiting, plain_ports, ports_at, wished, wishes}
@@ -151,3 +151,21 @@ stalled_kept p seat place s o e h there a value waits fewer =
     (alone_after seat p.slots.items (record s { stalled = o }) s h (omega (arith, e, there, a.slots)) a.alone
     (subst (λ (x : SlotState). stalls_of seat.app p.slots.items + one_in (record s { stalled = o }) ≤ 1 + one_in x) (value ∙ ap (λ (k : ℕ). get_or p.slots.items k s) e) fewer) b))
     a
+
+-- where none of an application's waits, none does at its slots
+pub none_waits : (p : Inside) (at : PortsAt) (seat : Seat) (place : ℕ) (s : SlotState) → ports_at p ≡ at → place ≡ place_of seat → seat.slot < 4 → place < 16 → ArePorts p → s ≡ get_or p.slots.items place s → stalls_of seat.app at.ports.slots ≡ 0
+    → (stalls_of seat.app p.slots.items ≡ 0) × (s.stalled ≡ None)
+none_waits p at seat place s view e h there a value none =
+    let all = sym (stalls_of_map seat.app nowhere p.slots.items) ∙ (ap (λ (x : PortsAt). stalls_of seat.app x.ports.slots) view ∙ none) in (
+      all,
+      ap (λ (x : SlotState). x.stalled) value ∙ (ap (λ (k : ℕ). (get_or p.slots.items k s).stalled) e ∙ none_in seat p.slots.items s h (omega (arith, e, there, a.slots)) all),
+    )
+
+-- and where one is taken out none is left
+pub none_after : (p : Inside) (seat : Seat) (place : ℕ) (s : SlotState) (o : Option PlainBuffer) → o ≡ s.stalled → place ≡ place_of seat → seat.slot < 4 → place < 16 → ArePorts p → s ≡ get_or p.slots.items place s
+    → IfSome o (λ b. stalls_of seat.app (map (placed_state nowhere) (slice_set p.slots.items place (record s { stalled = None }))) ≡ 0)
+none_after p seat place s None was e h there a value = tt
+none_after p seat place s (Some b) was e h there a value =
+    let one = ap (λ (x : Option PlainBuffer). one_in (record s { stalled = x })) was ∙ ap one_in (value ∙ ap (λ (k : ℕ). get_or p.slots.items k s) e) in
+    stalls_of_map seat.app nowhere (slice_set p.slots.items place (record s { stalled = None }))
+    ∙ rw e (omega (arith, one, a.alone seat.app, stalls_at seat p.slots.items (record s { stalled = None }) s h (omega (arith, e, there, a.slots))))

@@ -1,6 +1,6 @@
 -- the packets that wait for room, counted: at all slots, and at those of an application
 use Rattle.std.specs.Prelude.{Bool, None, Option, Some, cond, count_by, false, get_or, is_some, slice_set, true}
-use Rattle.std.specs.Option.{option_map}
+use Rattle.std.specs.Option.{option_map, option_to_list}
 use Rattle.std.proofs.Common.{◌≡◌, ℕ, zero, suc, ◌+◌, ◌<◌, ◌≤◌, nat_lt, List, [], ◌∷◌, length, map, take, drop, arith, ap, ap₂, refl, subst, sym, ◌∙◌}
 use Rattle.std.proofs.lemmas.Bool.{ltb-false, ltb-true}
 use Rattle.std.proofs.lemmas.List.{drop-drop, drop-map, drop_all, get_or_past, take-map}
@@ -13,17 +13,13 @@ use Rattle.csp_buffer.specs.PlainBuffer.{PlainBuffer}
 use Rattle.csp_conn.specs.PlainConns.{place_of}
 use Rattle.csp_ports.proofs.Slots.{placed_state, same_map}
 use Rattle.csp_ports.proofs.Wishing.{weighs_after, weighs_at, weighs_earlier, weighs_later}
-use Rattle.csp_ports.specs.PlainPorts.{PlainPorts, has_stalled, stalled_at, stalls, stalls_of, state_at, untouched}
+use Rattle.csp_ports.specs.PlainPorts.{PlainPorts, has_stalled, stalled_at, stalls, stalls_of, state_at, untouched, with_stalled}
 use Rattle.csp_ports.specs.declared.terms.SlotState.{SlotState}
 use Rattle.csp_rdp.specs.Placed.{placed_buffer}
 
 -- a packet that waits, or none, as what it counts
 abbrev pub one_in : SlotState → ℕ
 one_in s = cond (has_stalled s) 1 0
-
-counts_one : (o : Option PlainBuffer) → o ≡ None → ◌≡◌ {A = ℕ} (cond (is_some o) 1 0) 0
-counts_one None e = refl
-counts_one (Some b) e = cc
 
 is_none : (o : Option PlainBuffer) → ◌≡◌ {A = ℕ} (cond (is_some o) 1 0) 0 → o ≡ None
 is_none None e = refl
@@ -97,12 +93,21 @@ alone_after at ss s d h there one more app = omega (arith, weighs_after one_in 1
 
 -- ---- where none of an application's wait, none does at its slots
 
-pub none_at : (at : Seat) (ss : List SlotState) → at.slot < SLOTS → stalls_of at.app ss ≡ 0 → (get_or ss (place_of at) untouched).stalled ≡ None
-none_at at ss h none = go (nat_lt (place_of at) (length ss)) refl
-  where
-    go : (b : Bool) → nat_lt (place_of at) (length ss) ≡ b → (get_or ss (place_of at) untouched).stalled ≡ None
-    go true e = is_none (get_or ss (place_of at) untouched).stalled (omega (arith, none, stalls_at at ss untouched untouched h (ltb-true (place_of at) (length ss) e)))
-    go false e = ap (λ (s : SlotState). s.stalled) (get_or_past ss (place_of at) untouched (ltb-false (place_of at) (length ss) e))
+pub none_in : (at : Seat) (ss : List SlotState) (d : SlotState) → at.slot < SLOTS → place_of at < length ss → stalls_of at.app ss ≡ 0 → (get_or ss (place_of at) d).stalled ≡ None
+none_in at ss d h there none = is_none (get_or ss (place_of at) d).stalled (omega (arith, none, stalls_at at ss untouched d h there))
 
 pub none_stalled : (p : PlainPorts) (seat : Seat) → seat.slot < SLOTS → stalls_of seat.app p.slots ≡ 0 → stalled_at p seat ≡ None
-none_stalled p seat h none = none_at seat p.slots h none
+none_stalled p seat h none = go (nat_lt (place_of seat) (length p.slots)) refl
+  where
+    go : (b : Bool) → nat_lt (place_of seat) (length p.slots) ≡ b → stalled_at p seat ≡ None
+    go true e = none_in seat p.slots untouched h (ltb-true (place_of seat) (length p.slots) e) none
+    go false e = ap (λ (s : SlotState). s.stalled) (get_or_past p.slots (place_of seat) untouched (ltb-false (place_of seat) (length p.slots) e))
+
+-- ---- a packet is taken out
+
+one_list : (o : Option PlainBuffer) → length (option_to_list o) ≡ cond (is_some o) 1 0
+one_list None = refl
+one_list (Some b) = refl
+
+pub stalls_less : (p : PlainPorts) (seat : Seat) → place_of seat < length p.slots → stalls (with_stalled p seat None).slots + length (option_to_list (stalled_at p seat)) ≡ stalls p.slots
+stalls_less p seat there = omega (arith, one_list (stalled_at p seat), stalls_set p.slots (place_of seat) (record (state_at p seat) { stalled = None }) untouched there)

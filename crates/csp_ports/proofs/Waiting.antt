@@ -1,5 +1,5 @@
 -- packets that wait for room, and what becomes of them
-use Rattle.std.specs.Prelude.{Bool, Err, None, Ok, Option, Result, Some, cond, false, get_or, slice_set, true, unwrap_or}
+use Rattle.std.specs.Prelude.{Bool, Err, None, Option, Result, Some, false, get_or, slice_set, true}
 use Rattle.std.specs.Option.{option_map}
 use Rattle.std.specs.Vec.{with_item}
 use Rattle.std.proofs.Common.{◌≡◌, ℕ, zero, suc, ◌<◌, List, [], ◌∷◌, ap, refl, subst, sym, ◌∙◌}
@@ -9,6 +9,7 @@ use Rattle.csp_buffer.specs.PlainBuffer.{PlainBuffer}
 use Rattle.csp_conn.specs.PlainConns.{place_of}
 use Rattle.csp_deck.specs.Regions.{nowhere}
 use Rattle.csp_ports.proofs.Keeping.{machine_in_place, machine_seen, machine_stepped}
+use Rattle.csp_ports.proofs.Settling.{by_settled, true_false}
 use Rattle.csp_ports.proofs.Slots.{machine_unstalled}
 use Rattle.csp_ports.specs.Kept.{Admits, ArePorts, ports_at}
 use Rattle.csp_ports.specs.PlainPorts.{PlainPorts, PortsAt, anywhere, machine_at, stalled_at, stalls_of, state_at, untouched, with_ports_at, with_stalled}
@@ -59,32 +60,20 @@ stalled_again p seat o e =
     ap (λ (x : Option PlainBuffer). with_stalled (with_stalled p seat None) seat x) (sym e)
     ∙ ap (λ (ss : List SlotState). record p { slots = ss }) (put_back p.slots (place_of seat))
 
--- and where none does none is taken out
-pub unstalled : (p : PlainPorts) (seat : Seat) → stalled_at p seat ≡ None → with_stalled p seat None ≡ p
-unstalled p seat e = ap (λ (ss : List SlotState). record p { slots = ss }) (ap (λ (o : Option PlainBuffer). slice_set p.slots (place_of seat) (record (state_at p seat) { stalled = o })) (sym e) ∙ set-get_or p.slots (place_of seat) untouched)
+settled_back : (old mid out new : PortsAt) (seat : Seat) (b back : PlainBuffer) (time : ℕ) (room : Bool) → mid ≡ with_ports_at old (with_stalled old.ports seat None) → stalled_at old.ports seat ≡ Some (anywhere b.picture) → AdmitsIn room (Err back) mid out seat b time
+    → new ≡ with_ports_at out (with_stalled out.ports seat (Some (anywhere back.picture))) → (room ≡ false) × (new ≡ old)
+settled_back old mid out new seat b back time true e waits h put = absurd cc
+settled_back old mid out new seat b back time false e waits h put =
+    let given : back ≡ b = cc in (
+      refl,
+      put
+          ∙ (ap (λ (x : PortsAt). with_ports_at x (with_stalled x.ports seat (Some (anywhere back.picture)))) (h.1 ∙ e)
+          ∙ ap (with_ports_at old) (stalled_again old.ports seat (Some (anywhere back.picture)) (waits ∙ ap (λ (c : PlainBuffer). Some (anywhere c.picture)) (sym given)))),
+    )
 
--- ---- the packet that waits at a slot is admitted where there is room
-
--- what waited, and whether there is room
-abbrev settled_by : (time : ℕ) → Seat → PlainPorts → Option PlainBuffer → (room : Bool) → PlainPorts
-settled_by time seat p o room = unwrap_or (option_map (λ b. cond room (admitted time seat b (with_stalled p seat None)) p) o) p
-
-pub settled_none : (old mid : PortsAt) (seat : Seat) (time : ℕ) → mid ≡ with_ports_at old (with_stalled old.ports seat None) → stalled_at old.ports seat ≡ None → mid ≡ with_ports_at old (settled time seat old.ports)
-settled_none old mid seat time e none =
-    e ∙ ap (with_ports_at old) (unstalled old.ports seat none ∙ ap (λ (o : Option PlainBuffer). settled_by time seat old.ports o (has_room (machine_at old.ports seat))) (sym none))
-
-settled_some : (old mid out new : PortsAt) (seat : Seat) (b : PlainBuffer) (answer : Result Unit PlainBuffer) (time : ℕ) (room : Bool) → mid ≡ with_ports_at old (with_stalled old.ports seat None) → stalled_at old.ports seat ≡ Some (anywhere b.picture) → AdmitsIn room answer mid out seat b time
-    → (answer ≡ Ok tt → new ≡ out) → ((back : PlainBuffer) → answer ≡ Err back → new ≡ with_ports_at out (with_stalled out.ports seat (Some (anywhere back.picture)))) → new ≡ with_ports_at old (settled_by time seat old.ports (Some (anywhere b.picture)) room)
-settled_some old mid out new seat b answer time true e waits h ok err =
-    ok h.0 ∙ (h.1 ∙ ap (λ (x : PortsAt). with_ports_at x (admitted time seat (anywhere b.picture) x.ports)) e)
-settled_some old mid out new seat b answer time false e waits h ok err =
-    err b h.0 ∙ (ap (λ (x : PortsAt). with_ports_at x (with_stalled x.ports seat (Some (anywhere b.picture)))) (h.1 ∙ e)
-    ∙ ap (with_ports_at old) (stalled_again old.ports seat (Some (anywhere b.picture)) waits))
-
--- and else it waits as it did
-pub settled_so : (old mid out new : PortsAt) (seat : Seat) (b : PlainBuffer) (answer : Result Unit PlainBuffer) (time : ℕ) → mid ≡ with_ports_at old (with_stalled old.ports seat None) → Some (anywhere b.picture) ≡ stalled_at old.ports seat → AdmitsIn (has_room (machine_at mid.ports seat)) answer mid out seat b time
-    → (answer ≡ Ok tt → new ≡ out) → ((back : PlainBuffer) → answer ≡ Err back → new ≡ with_ports_at out (with_stalled out.ports seat (Some (anywhere back.picture)))) → new ≡ with_ports_at old (settled time seat old.ports)
-settled_so old mid out new seat b answer time e waits h ok err =
-    settled_some old mid out new seat b answer time (has_room (machine_at mid.ports seat)) e (sym waits) h ok err
-    ∙ (ap (λ (r : PlainRdp). with_ports_at old (settled_by time seat old.ports (Some (anywhere b.picture)) (has_room r))) (ap (λ (x : PortsAt). machine_at x.ports seat) e ∙ machine_unstalled old.ports seat None seat)
-    ∙ ap (λ (o : Option PlainBuffer). with_ports_at old (settled_by time seat old.ports o (has_room (machine_at old.ports seat)))) waits)
+pub settled_err : (old mid out new : PortsAt) (seat : Seat) (b back : PlainBuffer) (time : ℕ) → mid ≡ with_ports_at old (with_stalled old.ports seat None) → Some (anywhere b.picture) ≡ stalled_at old.ports seat → AdmitsIn (has_room (machine_at mid.ports seat)) (Err back) mid out seat b time
+    → new ≡ with_ports_at out (with_stalled out.ports seat (Some (anywhere back.picture))) → new ≡ with_ports_at old (settled time seat old.ports)
+settled_err old mid out new seat b back time e waits h put =
+    let k = settled_back old mid out new seat b back time _ e (sym waits) h put in
+    let full : has_room (machine_at old.ports seat) ≡ false = sym (ap (λ (x : PortsAt). has_room (machine_at x.ports seat)) e ∙ ap has_room (machine_unstalled old.ports seat None seat)) ∙ k.0 in
+    k.1 ∙ by_settled (λ q. old ≡ with_ports_at old q) time seat old.ports refl (λ c f room. absurd (true_false (sym room ∙ full)))

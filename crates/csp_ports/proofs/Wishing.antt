@@ -1,10 +1,11 @@
 -- what is counted at the slots of an application, as the answers that are still to come there
 use Rattle.std.specs.Prelude.{get_or, slice_set, sum_by}
-use Rattle.std.proofs.Common.{◌≡◌, ℕ, ◌+◌, ◌-◌, ◌<◌, ◌≤◌, nat_lt, Bool, true, false, List, length, take, drop, refl, arith}
+use Rattle.std.proofs.Common.{◌≡◌, ℕ, ◌+◌, ◌-◌, ◌*◌, ◌<◌, ◌≤◌, nat_lt, Bool, true, false, List, length, take, drop, replicate, refl, arith, ap, ◌∙◌}
 use Rattle.std.proofs.lemmas.Bool.{ltb-true, ltb-false}
-use Rattle.std.proofs.lemmas.List.{drop-set-add, drop-set-lt, take-set-le, get_or-drop, get_or-take, length-drop, length-take}
+use Rattle.std.proofs.lemmas.List.{drop-replicate, drop-set-add, drop-set-lt, take-set-le, get_or-drop, get_or-take, length-drop, length-take}
 use Rattle.std.proofs.Math.Seq.{take-set-lt}
-use Rattle.std.proofs.lemmas.List.Sums.{sum_by-set}
+use Rattle.std.proofs.lemmas.List.Folds.{sum_by-replicate}
+use Rattle.std.proofs.lemmas.List.Sums.{sum_by-set, sum_by-take-le}
 use Rattle.csp_base.specs.Seat.{seat}
 use Rattle.csp_base.specs.declared.seat.Seat.{Seat}
 use Rattle.csp_conn.specs.PlainConns.{place_of}
@@ -50,6 +51,13 @@ weighs_after f most at xs owed v d h there due more a = by_app _ refl _ refl
     by_app false e false i =
         let same : a ≡ at.app = omega (arith, ltb-false a at.app e, ltb-false at.app a i) in
         rw same (omega (arith, weighs_at f at xs v d h there, more))
+
+-- slots that come to nothing
+pub weighs_none : {X : Type 0} → (f : X → ℕ) (n app : ℕ) (x : X) → f x ≡ 0 → weighs f app (replicate n x) ≡ 0
+weighs_none f n app x none = ap (λ l. sum_by f (take 4 l)) (drop-replicate (place_of (seat app 0)) n x) ∙ taken 4 (n - place_of (seat app 0))
+  where
+    taken : (m k : ℕ) → sum_by f (take m (replicate k x)) ≡ 0
+    taken m k = let few = sum_by-take-le f (replicate k x) m in let all = sum_by-replicate f k x ∙ ap (λ (y : ℕ). k * y) none in omega (arith, few, all)
 
 -- the answers that are still to come, with other terms at a slot of another application
 pub wishes_later : (at : Seat) (other : ℕ) (terms : List Terms) (t : Terms) → at.slot < 4 → other < at.app → wishes other (slice_set terms (place_of at) t) ≡ wishes other terms

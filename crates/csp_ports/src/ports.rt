@@ -11,7 +11,7 @@ ghost use Rattle.csp_ports.specs.Counts.{AreFar};
 ghost use Rattle.csp_ports.specs.Held.{held};
 ghost use Rattle.csp_ports.specs.Keeps.{AreWhole};
 ghost use Rattle.csp_ports.specs.Kept.{IsOwed, wished, wishes};
-ghost use Rattle.csp_ports.specs.PlainPorts.{machine_at, owing, ports_of, stalls_of, state_at, terms_at, terms_of, untouched, waiting, with_ports_at, with_terms};
+ghost use Rattle.csp_ports.specs.PlainPorts.{machine_at, owing, ports_of, stalls, stalls_of, state_at, terms_at, terms_of, untouched, waiting, with_ports_at, with_terms};
 ghost use Rattle.csp_deck.specs.Regions.{nowhere};
 ghost use Rattle.csp_rdp.specs.Placed.{placed};
 ghost use Rattle.csp_socket.specs.Bound.{owner_of};
@@ -167,7 +167,8 @@ impl Ports {
 
     /// Each machine of a slot is whole, and no more packets wait than there may be applications.
     pub(crate) fn whole(&self)
-        ensures { AreWhole self.now.ports }
+        ensures machines { AreWhole self.now.ports }
+        ensures waits { stalls self.now.ports.slots ≤ MAX_APPS }
     {
         // Read for the checker alone, which then knows what is true of all ports.
         let _slots = &self.slots;

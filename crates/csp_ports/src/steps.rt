@@ -181,6 +181,7 @@ impl Ports {
         ensures few { length report.new.items ≤ MAX_APPS }
         ensures apps { self.new.ports.conns.apps ≡ self.old.ports.conns.apps }
     {
+        self.whole();
         for at in 0..self.slot_count() {
             let seat = self.seat_at(at);
             self.drop_stalled(seat, trash, report);

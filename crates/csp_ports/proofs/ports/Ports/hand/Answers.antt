@@ -68,6 +68,6 @@ returns-clause-apps c =
 pub returns-clause-keeps : goal.returns-clause-keeps
 returns-clause-keeps c =
     let p = c.args.self.now.ports in
-    let few = there_few p c.args.seat c.whole.ensures c.requires.there in
+    let few = there_few p c.args.seat c.whole.ensures.machines c.requires.there in
     keeps_of 1 c.args.self.now c.settle.new.self c.args.trash.now c.drop_stalled.new.trash c.args.report.now.items c.drop_stalled.new.report.items (handing p c.args.seat c.args.head c.args.packet.picture c.args.now) (c.args.packet.picture.number ∷ [])
-    (returns-clause-comes c) (flows_handed p c.args.seat c.args.head c.args.packet.picture c.args.now few c.whole.ensures)
+    (returns-clause-comes c) (flows_handed p c.args.seat c.args.head c.args.packet.picture c.args.now few c.whole.ensures.machines)

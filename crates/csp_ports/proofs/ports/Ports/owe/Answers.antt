@@ -30,7 +30,6 @@ invariant_of-self c =
       owed = rw c.push_back_reserved.ensures.items (owed_more p.conns.apps p.owed.items o a.owed (record { app = there; reply = c.requires.reply }));
       due = rw c.push_back_reserved.ensures.items (due_more ANSWERS p.owed.items o (λ b. wishes b (terms_of (plain_ports p))) a.due fewer);
       slots = a.slots;
-      housed = a.housed;
-      places = a.places;
-      waits = a.waits;
+      kept = a.kept;
+      alone = a.alone;
     }

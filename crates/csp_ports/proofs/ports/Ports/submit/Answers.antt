@@ -25,6 +25,6 @@ returns-in-Open-clause-apps c =
 pub returns-in-Open-clause-keeps : goal.returns-in-Open-clause-keeps
 returns-in-Open-clause-keeps c =
     let p = c.args.self.now.ports in
-    let few = there_few p c.args.seat c.whole.ensures c.requires.there in
+    let few = there_few p c.args.seat c.whole.ensures.machines c.requires.there in
     keeps_of 1 c.args.self.now c.send.new.self c.args.trash.now c.args.trash.now c.args.report.now.items c.send.new.report.items (submitting p c.args.seat c.args.packet.picture c.args.now) (c.args.packet.picture.number ∷ [])
-    (returns-in-Open-clause-comes c) (flows_submitted (machine_at p c.args.seat).state p c.args.seat c.args.packet.picture c.args.now few c.whole.ensures (none_stalled p c.args.seat c.requires.there.of_app c.requires.first))
+    (returns-in-Open-clause-comes c) (flows_submitted (machine_at p c.args.seat).state p c.args.seat c.args.packet.picture c.args.now few c.whole.ensures.machines (none_stalled p c.args.seat c.requires.there.of_app c.requires.first))
