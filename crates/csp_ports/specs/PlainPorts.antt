@@ -50,7 +50,7 @@ anywhere b = record { picture = b; region = nowhere }
 abbrev pub fresh : Terms
 fresh = record { prio = Normal; flags = 0; wish = wish.Nothing; is_down = false; ordinal = 0 }
 
--- and what is kept of it: it has no machine, and no packet waits
+-- and what is kept of it: it has no machine, and no packet waits there
 abbrev pub untouched : SlotState
 untouched = record { terms = fresh; machine = None; stalled = None }
 
@@ -77,8 +77,8 @@ waiting app owed = count_by (λ o. o.app == app) owed
 
 -- ---- slots
 
--- what is kept of a slot: its terms; its machine, which a slot with a plain connection, and one that is free, has not; and the
--- packet that waits for room in its machine's window
+-- what is kept of a slot: its terms; its machine, where it has one: a slot with a plain connection, and one that is free, has none; and the
+-- packet that waits for room in the machine's window
 abbrev pub state_at : PlainPorts → Seat → SlotState
 state_at p seat = get_or p.slots (place_of seat) untouched
 
@@ -149,7 +149,7 @@ has_stalled s = is_some s.stalled
 abbrev pub stalls : List SlotState → ℕ
 stalls slots = count_by has_stalled slots
 
--- and at how many of an application's: one at most, since it is not served meanwhile
+-- at how many slots of an application a packet waits: at one at most, since the application is not served meanwhile
 abbrev pub stalls_of : (app : ℕ) → List SlotState → ℕ
 stalls_of app slots = stalls (take SLOTS (drop (place_of (seat app 0)) slots))
 
