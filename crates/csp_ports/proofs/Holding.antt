@@ -25,6 +25,7 @@ use Rattle.csp_ports.specs.Kept.{IsHoused, IsKept, IsWaiting, wished, wishes}
 use Rattle.csp_ports.specs.PlainPorts.{PortsAt, fresh, has_stalled, machine_in, stalls}
 use Rattle.csp_ports.specs.declared.terms.SlotState.{SlotState}
 use Rattle.csp_ports.proofs.Letting.{pictures_placed}
+use Rattle.csp_ports.proofs.Wishing.{weighs_none}
 use Rattle.csp_ports.proofs.Slots.{placed_machine, placed_state}
 use Rattle.csp_ports.specs.declared.held.TheConstants.{MAX_HELD}
 use Rattle.csp_rdp.specs.Holding.{loose_buffers, rdp_buffers, rdp_numbers, taken_out, taken_out_of, unneeded, useless_buffers}
@@ -389,11 +390,7 @@ held-few name rs slots all few =
 
 -- no slot waits for an answer
 pub wishes-none : (n app : ℕ) → wishes app (replicate n fresh) ≡ 0
-wishes-none n app =
-    ap (λ l. sum_by (λ t. wished t.wish) (take SLOTS l)) (drop-replicate (place_of (seat app 0)) n fresh) ∙ none-taken SLOTS (n - place_of (seat app 0))
-  where
-    none-taken : (m k : ℕ) → sum_by (λ t. wished t.wish) (take m (replicate k fresh)) ≡ 0
-    none-taken m k = let few = sum_by-take-le (λ t. wished t.wish) (replicate k fresh) m in let all = sum_by-replicate (λ t. wished t.wish) k fresh in omega (arith, few, all)
+wishes-none n app = weighs_none (λ t. wished t.wish) n app fresh refl
 
 blank : {A : Type 0} (n i : ℕ) (a : A) → get_or (replicate n a) i a ≡ a
 blank zero i a = refl

@@ -12,7 +12,7 @@ use Rattle.csp_ports.proofs.Stalling.{alone_after, none_in, one_in, stalls_at, s
 use Rattle.csp_ports.proofs.Wishing.{weighs_after}
 use Rattle.csp_deck.specs.Regions.{nowhere}
 use Rattle.csp_ports.specs.Kept.{ArePorts, IsHoused, IsKept, IsWaiting, plain_ports, ports_at, wished, wishes}
-use Rattle.csp_ports.specs.PlainPorts.{PortsAt, fresh, has_machine, machine_at, stalled_at, stalls_of, state_at, terms_at, terms_of, untouched, waiting, with_machine, with_machine_or, with_ports_at, with_stalled, with_terms}
+use Rattle.csp_ports.specs.PlainPorts.{PortsAt, fresh, has_machine, machine_at, stalls_of, state_at, terms_at, terms_of, untouched, waiting, with_machine, with_machine_or, with_ports_at, with_stalled, with_terms}
 use Rattle.csp_ports.specs.declared.terms.SlotState.{SlotState}
 use Rattle.csp_ports.proofs.Slots.{placed_state, terms_listed, terms_of_machine, terms_of_stalled, terms_of_terms}
 use Rattle.csp_rdp.specs.Machine.{PlainRdp, idle}
@@ -37,7 +37,7 @@ slot_kept p k s h due alone a = record {
 }
 
 -- what is kept of the slot in a place
-pub kept_in : (p : Inside) (k : ℕ) (s : SlotState) → k < 16 → ArePorts p → s ≡ get_or p.slots.items k s → IsKept p.token.name s
+kept_in : (p : Inside) (k : ℕ) (s : SlotState) → k < 16 → ArePorts p → s ≡ get_or p.slots.items k s → IsKept p.token.name s
 kept_in p k s there a value = subst (IsKept p.token.name) (sym value) (All-get_or (IsKept p.token.name) p.slots.items k s (omega (arith, there, a.slots)) a.kept)
 
 -- where the packet that waits there stays, or none does, an application has one at most as before
@@ -127,12 +127,7 @@ machine_stepped p at seat place s r new step view e there a value some made =
     ∙ (ap (λ (x : PortsAt). with_ports_at x (with_machine x.ports seat (placed nowhere new))) view
     ∙ ap (λ (q : PlainRdp). with_ports_at at (with_machine at.ports seat q)) (made ∙ ap step (machine_seen p at seat place s r view e there a value some)))
 
--- the packet that waits in a place, as contracts see it
-pub stalled_in : (p : Inside) (at : PortsAt) (seat : Seat) (place : ℕ) (s : SlotState) → ports_at p ≡ at → place ≡ place_of seat → place < 16 → ArePorts p → s ≡ get_or p.slots.items place s → option_map (placed_buffer nowhere) s.stalled ≡ stalled_at at.ports seat
-stalled_in p at seat place s view e there a value =
-    ap (λ (x : SlotState). (placed_state nowhere x).stalled) value ∙ (ap (λ (x : SlotState). x.stalled) (slot_in p seat place s e there a) ∙ ap (λ (x : PortsAt). stalled_at x.ports seat) view)
-
--- another there, or none
+-- another packet that waits in a place, or none, as contracts see it
 pub stalled_set : (p : Inside) (seat : Seat) (place : ℕ) (s : SlotState) (o : Option PlainBuffer) → place ≡ place_of seat → place < 16 → ArePorts p → s ≡ get_or p.slots.items place s
     → ports_at (record p { slots = with_item p.slots place (record s { stalled = o }) }) ≡ with_ports_at (ports_at p) (with_stalled (plain_ports p) seat (option_map (placed_buffer nowhere) o))
 stalled_set p seat place s o e there a value =

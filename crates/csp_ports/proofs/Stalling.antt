@@ -12,7 +12,7 @@ use Rattle.csp_base.specs.declared.seat.Seat.{Seat}
 use Rattle.csp_buffer.specs.PlainBuffer.{PlainBuffer}
 use Rattle.csp_conn.specs.PlainConns.{place_of}
 use Rattle.csp_ports.proofs.Slots.{placed_state, same_map}
-use Rattle.csp_ports.proofs.Wishing.{weighs_after, weighs_at, weighs_earlier, weighs_later}
+use Rattle.csp_ports.proofs.Wishing.{weighs_after, weighs_at}
 use Rattle.csp_ports.specs.PlainPorts.{PlainPorts, has_stalled, stalled_at, stalls, stalls_of, state_at, untouched, with_stalled}
 use Rattle.csp_ports.specs.declared.terms.SlotState.{SlotState}
 use Rattle.csp_rdp.specs.Placed.{placed_buffer}
@@ -42,10 +42,10 @@ counted : (ss : List SlotState) → count_by (λ b. b) (map has_stalled ss) ≡ 
 counted [] = refl
 counted (s ∷ ss) = sum_by-cons (λ (b : Bool). cond b 1 0) (has_stalled s) (map has_stalled ss) ∙ (ap (λ (n : ℕ). one_in s + n) (counted ss) ∙ sym (sum_by-cons one_in s ss))
 
-pub stalls_by : (ss ts : List SlotState) → map has_stalled ss ≡ map has_stalled ts → stalls ss ≡ stalls ts
+stalls_by : (ss ts : List SlotState) → map has_stalled ss ≡ map has_stalled ts → stalls ss ≡ stalls ts
 stalls_by ss ts e = sym (counted ss) ∙ (ap (count_by (λ b. b)) e ∙ counted ts)
 
-pub stalls_of_by : (app : ℕ) (ss ts : List SlotState) → map has_stalled ss ≡ map has_stalled ts → stalls_of app ss ≡ stalls_of app ts
+stalls_of_by : (app : ℕ) (ss ts : List SlotState) → map has_stalled ss ≡ map has_stalled ts → stalls_of app ss ≡ stalls_of app ts
 stalls_of_by app ss ts e =
     let n = place_of (seat app 0) in
     stalls_by (take 4 (drop n ss)) (take 4 (drop n ts)) (sym (mapped n ss) ∙ (ap (λ (bs : List Bool). take 4 (drop n bs)) e ∙ mapped n ts))
@@ -74,20 +74,13 @@ stalls_same app ss k s d e = stalls_of_by app (slice_set ss k s) ss (same_map ha
 
 -- ---- another packet in a place, or none
 
-pub stalls_set : (ss : List SlotState) (k : ℕ) (s d : SlotState) → k < length ss → stalls (slice_set ss k s) + one_in (get_or ss k d) ≡ stalls ss + one_in s
+stalls_set : (ss : List SlotState) (k : ℕ) (s d : SlotState) → k < length ss → stalls (slice_set ss k s) + one_in (get_or ss k d) ≡ stalls ss + one_in s
 stalls_set ss k s d there = sum_by-set one_in ss k s d there
 
 pub stalls_at : (at : Seat) (ss : List SlotState) (s d : SlotState) → at.slot < SLOTS → place_of at < length ss → stalls_of at.app (slice_set ss (place_of at) s) + one_in (get_or ss (place_of at) d) ≡ stalls_of at.app ss + one_in s
 stalls_at at ss s d h there = weighs_at one_in at ss s d h there
 
--- the others' are as many as before
-pub stalls_later : (at : Seat) (other : ℕ) (ss : List SlotState) (s : SlotState) → at.slot < SLOTS → other < at.app → stalls_of other (slice_set ss (place_of at) s) ≡ stalls_of other ss
-stalls_later at other ss s h far = weighs_later one_in at other ss s h far
-
-pub stalls_earlier : (at : Seat) (other : ℕ) (ss : List SlotState) (s : SlotState) → at.slot < SLOTS → at.app < other → stalls_of other (slice_set ss (place_of at) s) ≡ stalls_of other ss
-stalls_earlier at other ss s h far = weighs_earlier one_in at other ss s h far
-
--- and no application has more than one, where the one that it is has none besides
+-- then no application has more than one, where the one that it is has none besides
 pub alone_after : (at : Seat) (ss : List SlotState) (s d : SlotState) → at.slot < SLOTS → place_of at < length ss → ((app : ℕ) → stalls_of app ss ≤ 1) → stalls_of at.app ss + one_in s ≤ 1 + one_in (get_or ss (place_of at) d) → (app : ℕ) → stalls_of app (slice_set ss (place_of at) s) ≤ 1
 alone_after at ss s d h there one more app = omega (arith, weighs_after one_in 1 at ss (λ b. 0) s d h there (λ b. omega (arith, one b)) (omega (arith, more)) app)
 

@@ -34,10 +34,10 @@ pub weighs_at : {X : Type 0} → (f : X → ℕ) (at : Seat) (xs : List X) (v d 
 weighs_at f at xs v d h there = inside f (place_of (seat at.app 0)) 4 at.slot (place_of at) xs v d (omega arith) h there
 
 -- and in that of one of another application
-pub weighs_later : {X : Type 0} → (f : X → ℕ) (at : Seat) (other : ℕ) (xs : List X) (v : X) → at.slot < 4 → other < at.app → weighs f other (slice_set xs (place_of at) v) ≡ weighs f other xs
+weighs_later : {X : Type 0} → (f : X → ℕ) (at : Seat) (other : ℕ) (xs : List X) (v : X) → at.slot < 4 → other < at.app → weighs f other (slice_set xs (place_of at) v) ≡ weighs f other xs
 weighs_later f at other xs v h far = behind f (place_of (seat other 0)) 4 (place_of at - place_of (seat other 0)) (place_of at) xs v (omega (arith, h, far)) (omega (arith, h, far))
 
-pub weighs_earlier : {X : Type 0} → (f : X → ℕ) (at : Seat) (other : ℕ) (xs : List X) (v : X) → at.slot < 4 → at.app < other → weighs f other (slice_set xs (place_of at) v) ≡ weighs f other xs
+weighs_earlier : {X : Type 0} → (f : X → ℕ) (at : Seat) (other : ℕ) (xs : List X) (v : X) → at.slot < 4 → at.app < other → weighs f other (slice_set xs (place_of at) v) ≡ weighs f other xs
 weighs_earlier f at other xs v h far = before f (place_of (seat other 0)) 4 (place_of at) xs v (omega (arith, h, far))
 
 -- then no application's come to more than they may, where those of the one that it is do not

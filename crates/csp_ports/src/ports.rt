@@ -152,8 +152,9 @@ impl Ports {
         requires { app < self.now.ports.conns.apps }
         ensures { result ≡ stalls_of app self.now.ports.slots }
     {
+        let slots = self.slots.iter();
         let first = place(Seat { app, slot: 0 });
-        let slots = self.slots.iter().skip(first).take(SLOTS);
+        let slots = slots.skip(first).take(SLOTS);
         slots.filter(|slot| slot.stalled.is_some()).count()
     }
 

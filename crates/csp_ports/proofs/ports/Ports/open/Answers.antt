@@ -1,8 +1,8 @@
 use Rattle.std.proofs.Common.{arith, refl}
 use Rattle.std.proofs.lemmas.List.Elements.{All-nil, All-replicate}
-use Rattle.csp_ports.specs.Kept.{IsKept, IsOwed, wished}
-use Rattle.csp_ports.specs.PlainPorts.{fresh, untouched}
-use Rattle.csp_ports.proofs.Holding.{none-bound}
+use Rattle.csp_ports.specs.Kept.{IsKept, IsOwed}
+use Rattle.csp_ports.specs.PlainPorts.{untouched}
+use Rattle.csp_ports.proofs.Holding.{none-bound, wishes-none}
 use Rattle.csp_ports.proofs.Stalling.{one_in}
 use Rattle.csp_ports.proofs.Wishing.{weighs_none}
 use Rattle.csp_ports.proofs.ports.Ports.open.Goals as goal
@@ -15,7 +15,7 @@ invariant_of-result c = record {
   owners = λ port. none-bound c.new-2.result port c.new.result.apps c.new-2.ensures;
   owed = rw (c.in_ok-owed.ensures.none) (All-nil (IsOwed c.new.result.apps));
   due = λ app.
-      let none = weighs_none (λ t. wished t.wish) 16 app fresh refl in
+      let none = wishes-none 16 app in
       rw (c.in_ok-owed.ensures.none, c.in_ok-slots.ensures.slots) omega (arith, none);
   slots = rw c.in_ok-slots.ensures.slots refl;
   kept = rw c.in_ok-slots.ensures.slots (All-replicate (IsKept c.args.region.name) 16 untouched (record { housed = tt; waits = tt }));
