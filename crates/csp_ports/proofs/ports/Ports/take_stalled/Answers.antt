@@ -1,6 +1,6 @@
 use Rattle.std.specs.Prelude.{None, Option}
-use Rattle.std.specs.Option.{option_map, option_to_list}
-use Rattle.std.proofs.Common.{◌≡◌, ◌+◌, ◌<◌, length, arith, ap, subst, sym, ◌∙◌}
+use Rattle.std.specs.Option.{option_map}
+use Rattle.std.proofs.Common.{◌<◌, length, arith, ap, subst, ◌∙◌}
 use Rattle.std.proofs.lemmas.List.{length-map}
 use Rattle.csp_buffer.specs.PlainBuffer.{PlainBuffer}
 use Rattle.csp_conn.specs.PlainConns.{place_of}
