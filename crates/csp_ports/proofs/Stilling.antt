@@ -19,7 +19,7 @@ use Rattle.csp_ports.proofs.Holding.{machine-housed}
 use Rattle.csp_ports.proofs.Settling.{by_dropped, true_false}
 use Rattle.csp_ports.proofs.Slots.{machine_listed, placed_machine, placed_state}
 use Rattle.csp_arena.specs.Cells.{RegionName}
-use Rattle.csp_ports.specs.Quiet.{any_stranded, any_times_out, is_stranded, times_out_at}
+use Rattle.csp_ports.specs.Quiet.{any_due, is_due, is_stranded, times_out_at}
 use Rattle.csp_ports.specs.Steps.{changed, dropped, dropped_in, stepped, timed, timed_at, timed_in, went, where_machine}
 use Rattle.csp_ports.specs.declared.ports.Ports.TheInside.{Inside}
 use Rattle.csp_rdp.proofs.Public.{rested-still, placed-unneeded, in_time}
@@ -103,13 +103,13 @@ dropped_still p k h =
 pub passed : (test : ℕ → Bool) (a n : ℕ) → a < n → test a ≡ false → list_any test (range_with_len (a + 1) (n - (a + 1))) ≡ list_any test (range_with_len a (n - a))
 passed test a n inside fails = sym (ap (list_any test) (range_next a n inside) ∙ ap (λ (b : Bool). b || list_any test (range_with_len (a + 1) (n - (a + 1)))) fails)
 
-pub quiet_still : (time : ℕ) (p : PlainPorts) → All (λ r. unneeded r ≡ []) (machines_of p) → any_times_out time p ≡ false → any_stranded p ≡ false → timed time p ≡ come p
-quiet_still time p rest late stranded =
+pub quiet_still : (time : ℕ) (p : PlainPorts) → All (λ r. unneeded r ≡ []) (machines_of p) → any_due time p ≡ false → timed time p ≡ come p
+quiet_still time p rest due =
     let all : List ℕ = range_with_len 0 (p.conns.apps * SLOTS) in
     then_still (timed_in time all p) (λ q. dropped_in (range_with_len 0 (q.conns.apps * SLOTS)) q) p
-    (in_still (timed_in time) (λ k. timed_at time (seat_of k)) p (times_out_at time p) refl (λ k ks. refl)
-    (λ k early. timed_still time (seat_of k) p early (subst (λ (r : PlainRdp). unneeded r ≡ []) (sym (machine_listed p (seat_of k))) (rest_at (machines_of p) (place_of (seat_of k)) rest))) all late)
-    (in_still dropped_in (λ k. dropped (seat_of k)) p (is_stranded p) refl (λ k ks. refl) (dropped_still p) all stranded)
+    (in_still (timed_in time) (λ k. timed_at time (seat_of k)) p (is_due time p) refl (λ k ks. refl)
+    (λ k still. timed_still time (seat_of k) p (or_parts (times_out_at time p k) (is_stranded p k) still).0 (subst (λ (r : PlainRdp). unneeded r ≡ []) (sym (machine_listed p (seat_of k))) (rest_at (machines_of p) (place_of (seat_of k)) rest))) all due)
+    (in_still dropped_in (λ k. dropped (seat_of k)) p (is_due time p) refl (λ k ks. refl) (λ k still. dropped_still p k (or_parts (times_out_at time p k) (is_stranded p k) still).1) all due)
 
 -- ---- ports hold what they need alone
 

@@ -152,10 +152,10 @@ impl Ports {
         requires { app < self.now.ports.conns.apps }
         ensures { result ≡ stalls_of app self.now.ports.slots }
     {
-        let slots = self.slots.iter();
+        let slots = self.slots.as_slice();
         let first = place(Seat { app, slot: 0 });
-        let slots = slots.skip(first).take(SLOTS);
-        slots.filter(|slot| slot.stalled.is_some()).count()
+        let slots = &slots[first..first + SLOTS];
+        slots.iter().filter(|slot| slot.stalled.is_some()).count()
     }
 
     /// The answer that is to be pushed first.

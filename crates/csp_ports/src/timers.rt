@@ -4,7 +4,7 @@ ghost use Rattle.std.specs.Prelude.{◌≡◌, [], ◌*◌, ◌<◌, IsTrue};
 ghost use Rattle.std.specs.List.{All};
 ghost use Rattle.csp_ports.specs.Came.{come};
 ghost use Rattle.csp_ports.specs.PlainPorts.{machines_of};
-ghost use Rattle.csp_ports.specs.Quiet.{any_stranded, any_times_out, is_quiet, is_stranded, times_out_at};
+ghost use Rattle.csp_ports.specs.Quiet.{any_due, is_due, is_quiet, is_stranded, times_out_at};
 ghost use Rattle.csp_ports.specs.Steps.{timed};
 ghost use Rattle.csp_rdp.specs.Holding.{unneeded};
 
@@ -20,7 +20,7 @@ impl Ports {
         ensures still { IsTrue result → timed now self.now.ports ≡ come self.now.ports }
     {
         self.rest();
-        !self.any_times_out(now) && !self.any_stranded()
+        !self.any_due(now)
     }
 
     /// Each machine holds what it needs alone.
@@ -31,16 +31,25 @@ impl Ports {
         let _slots = &self.slots;
     }
 
-    /// Whether a timer would change its connection.
-    fn any_times_out(&self, now: u64) -> bool
-        ensures { result ≡ any_times_out now self.now.ports }
+    /// Whether some slot has something to do for the timers.
+    fn any_due(&self, now: u64) -> bool
+        ensures { result ≡ any_due now self.now.ports }
     {
         for at in 0..self.slot_count() {
-            if self.times_out_at(at, now) {
+            if self.is_due(at, now) {
                 return true;
             }
         }
         false
+    }
+
+    /// Whether the slot at a place has: its timer would change its connection, or its packet waits for one
+    /// that is not open.
+    fn is_due(&self, at: usize, now: u64) -> bool
+        requires { at < ALL_SLOTS }
+        ensures { result ≡ is_due now self.now.ports at }
+    {
+        self.times_out_at(at, now) || self.is_stranded(at)
     }
 
     /// Whether the timer of the slot at a place would change its connection.
@@ -52,18 +61,6 @@ impl Ports {
             Some(machine) => machine.times_out(now),
             None => false,
         }
-    }
-
-    /// Whether a packet waits for a connection that is not open.
-    fn any_stranded(&self) -> bool
-        ensures { result ≡ any_stranded self.now.ports }
-    {
-        for at in 0..self.slot_count() {
-            if self.is_stranded(at) {
-                return true;
-            }
-        }
-        false
     }
 
     /// Whether the packet of the slot at a place waits for a connection that is not open.
